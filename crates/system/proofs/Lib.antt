@@ -1,0 +1,4 @@
+pub mod Bits
+pub mod JointMoves
+pub mod ListedMoves
+pub mod SeenRows

@@ -1,0 +1,6 @@
+pub mod joint;
+mod led;
+pub mod listed;
+mod picked;
+mod seen;
+pub mod system;
