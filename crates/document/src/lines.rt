@@ -85,7 +85,8 @@ fn new_below(names: &Names, text: &[u8], limit: usize) -> Result<(), LineFault>
     Ok(())
 }
 
-fn counted(line: &[u8], count: usize) -> Result<(), LineFault> {
+// Refuses a line with another number of fields.
+pub fn counted(line: &[u8], count: usize) -> Result<(), LineFault> {
     if field_count(line) != count {
         return Err(LineFault::Shape);
     }

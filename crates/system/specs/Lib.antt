@@ -1,3 +1,4 @@
+pub mod Counter
 pub mod Joint
 pub mod JointLawful
 pub mod Listed

@@ -4,3 +4,5 @@ pub mod listed;
 mod picked;
 mod seen;
 pub mod system;
+#[cfg(test)]
+mod tests;

@@ -1,0 +1,8 @@
+// Lassos: sessions that run into a loop. Judging a document's forms on one, and its text.
+pub mod decimal;
+pub mod judge;
+pub mod print;
+pub mod scan;
+pub mod step;
+pub mod until;
+pub mod valid;
