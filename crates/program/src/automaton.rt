@@ -86,4 +86,8 @@ impl Automaton {
     {
         self.finals
     }
+
+    pub fn is_final(&self, state: usize) -> bool {
+        state < 16 && (self.finals >> state) & 1 == 1
+    }
 }

@@ -1,0 +1,5 @@
+pub mod Claims
+pub mod Growing
+pub mod Offers
+pub mod Tables
+pub mod Walk

@@ -1,0 +1,89 @@
+// The nodes and edges of a goal's graph, as they lie in the two tables.
+ghost use mathlib.Core.Path.{_≡_};
+ghost use Prim.Native.Nat.{ℕ, _+_, _<_, _≤_};
+ghost use lib.ListN.{length};
+ghost use Rattle.std.specs.Options.{Cases};
+use crate::claims::ClaimSet;
+
+// Places of the tables that are used at most.
+pub const MOST_NODES: usize = 4096;
+pub const MOST_EDGES: usize = 65536;
+
+// A node: the action of its step, the phase, whether it is closing, and its claims. Once it is opened, its edges stand
+// one after another from `first_edge` on.
+#[derive(Clone, Copy)]
+pub struct Node {
+    pub action: u8,
+    pub phase: u8,
+    pub closing: bool,
+    pub claims: ClaimSet,
+    pub first_edge: u32,
+    pub edge_count: u32,
+}
+
+impl Node {
+    // A node for places not in use.
+    pub fn blank() -> Node {
+        Node {
+            action: 0,
+            phase: 0,
+            closing: false,
+            claims: ClaimSet::empty(),
+            first_edge: 0,
+            edge_count: 0,
+        }
+    }
+
+    // Whether the two are the same node of the graph.
+    pub fn same(&self, other: &Node) -> bool {
+        self.action == other.action
+            && self.phase == other.phase
+            && self.closing == other.closing
+            && self.claims.same(&other.claims)
+    }
+}
+
+// An edge: a pair of nodes, by their numbers.
+#[derive(Clone, Copy, PartialEq, Eq, Debug)]
+pub struct Edge {
+    pub from: u16,
+    pub to: u16,
+}
+
+impl Edge {
+    pub fn blank() -> Edge {
+        Edge { from: 0, to: 0 }
+    }
+}
+
+// How many places of the two tables are in use.
+#[derive(Clone, Copy)]
+pub struct Used {
+    pub nodes: usize,
+    pub edges: usize,
+}
+
+// The number of the node among the first `count`.
+pub fn find_node(nodes: &[Node], count: usize, node: &Node) -> Option<usize>
+    requires { ⌜ count ≤ length (now nodes) ⌝ }
+    ensures { λ r. ⌜ Cases r (Unit {0}) (λ i. i < count) ⌝ }
+{
+    for i in 0..count {
+        if nodes[i].same(node) {
+            return Some(i);
+        }
+    }
+    None
+}
+
+// Whether one of the edges from place `first` on, below `count`, leads to the node.
+pub fn has_edge_to(edges: &[Edge], first: usize, count: usize, to: u16) -> bool
+    requires { ⌜ count ≤ length (now edges) ⌝ }
+{
+    for i in first..count {
+        if edges[i].to == to {
+            return true;
+        }
+    }
+    false
+}
