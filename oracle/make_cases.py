@@ -14,14 +14,12 @@ from collections import Counter
 
 import answers
 import orders
-from dltl import (NO_LIMIT, Graph, Joint, Lasso, Listed, Refused, Step, Study, TooLarge,
-                  declared_marks, is_session, load_document, print_lasso, program_fault)
-
-# A random document is left out when the oracle needs more recursion steps than
-# this for its graph, or when the graph has more nodes or edges.
-PATIENCE = 12000
-MOST_NODES = 400
-MOST_EDGES = 3000
+from dltl import (NO_LIMIT, Graph, Joint, Lasso, Listed, Step, declared_marks, is_session,
+                  load_document, print_lasso)
+from documents import (PLAIN, REFUSED, always_choice, contradictory_document, faulty_document,
+                       limit_documents, lines, random_document, random_studied, stated_documents,
+                       studied)
+from load_cases import load_cases
 
 
 # ---------------------------------------------------------------------------
@@ -97,7 +95,8 @@ class Table:
 
 
 class Plan:
-    """A shape and its tables: 1 listed, 2 joint(a,b), 3 joint(joint(a,b),c), 4 joint(a,joint(b,c))."""
+    """A shape and its tables: 1 is a listed system a, 2 is joint(a,b),
+    3 is joint(joint(a,b),c) and 4 is joint(a,joint(b,c))."""
 
     def __init__(self, shape, *tables):
         self.shape = shape
@@ -121,463 +120,8 @@ class Plan:
 
 
 # ---------------------------------------------------------------------------
-# Random documents
-# ---------------------------------------------------------------------------
-
-class Writer:
-    """Writes a document; programs and forms get their names here."""
-
-    def __init__(self, acts, props):
-        self.acts = acts
-        self.props = props
-        self.lines = [f'act\t{name}' for name in acts] + [f'prop\t{name}' for name in props]
-        self.programs = {}      # program: its name
-        self.forms = {}         # kind and operands: name
-        self.names = {}         # program name: how many action names it has
-        self.weight = 0
-
-    def program(self, text):
-        """The name of a program, declared if it is new; None if there is no room."""
-        if text not in self.programs:
-            if len(self.programs) == 16 or program_fault(text.encode()) is not None:
-                return None
-            name = f'x{len(self.programs)}'
-            self.lines.append(f'prog\t{name}\t{text}')
-            self.programs[text] = name
-            count = 0
-            for char, before in zip(text, '(' + text):
-                count += char.isalpha() and not before.isalnum()
-            self.names[name] = count
-        return self.programs[text]
-
-    def form(self, kind, *operands, again=False):
-        """The name of a form. With `again`, a second form is made for the same thing."""
-        key = (kind, *operands)
-        if again or key not in self.forms:
-            weight = 6 * (self.names[operands[1]] + 1) if kind == 'until' else 2
-            if self.weight + weight > 256 or len(self.forms) > 60:
-                raise NoRoom()
-            self.weight += weight
-            name = f'f{sum(line.startswith("form") for line in self.lines)}'
-            self.lines.append('\t'.join(['form', name, *key]))
-            self.forms[key] = name
-        return self.forms[key]
-
-    def true(self):
-        return self.form('true')
-
-    def some(self, rng):
-        """A leaf."""
-        if self.props and rng.random() < 0.85:
-            return self.form('prop', rng.choice(self.props))
-        return self.true()
-
-    def negated(self, f):
-        return self.form('not', f)
-
-    def both(self, f, g):
-        return self.form('and', f, g)
-
-    def until(self, f, program, g, again=False):
-        name = self.program(program)
-        if name is None:
-            raise NoRoom()
-        return self.form('until', f, name, g, again=again)
-
-    def any_word(self):
-        """The program whose words are all words."""
-        return '(' + '+'.join(self.acts) + ')*'
-
-    def finally_(self, g):
-        return self.until(self.true(), self.any_word(), g)
-
-    def always(self, g):
-        return self.negated(self.finally_(self.negated(g)))
-
-    def text(self, goal):
-        return ('\n'.join(self.lines + [f'goal\t{goal}']) + '\n').encode()
-
-
-class NoRoom(Exception):
-    """The document would become too large; its maker tries another."""
-
-
-def random_program(rng, acts, names):
-    """A program with so many names."""
-    def make(count):
-        """The text, and how tightly its outermost sign binds: 0 sum, 1 sequence, 2 factor."""
-        def inside(part, least):
-            text, binding = part
-            return text if binding >= least else f'({text})'
-
-        if count == 1:
-            part = (rng.choice(acts), 2)
-        else:
-            cut = rng.randint(1, count - 1)
-            left, right = make(cut), make(count - cut)
-            if rng.random() < 0.4:
-                part = (inside(left, 0) + '+' + inside(right, 0), 0)
-            else:
-                part = (inside(left, 1) + ';' + inside(right, 1), 1)
-        if rng.random() < 0.3:
-            part = (inside(part, 2) + '*', 2)
-        elif rng.random() < 0.05:
-            part = (f'({part[0]})', 2)
-        return part
-
-    return make(names)[0]
-
-
-def random_writer(rng, small=False):
-    acts = list('abc')[:rng.choice([1, 2, 2] if small else [1, 1, 2, 2, 2, 3])]
-    props = list('pqr')[:rng.choice([1, 2] if small else [0, 1, 2, 2, 3])]
-    if not small and rng.random() < 0.15:
-        props = props[:1] + [name for name in acts if name not in props][:2]    # names of two kinds
-    return Writer(acts, props)
-
-
-def random_form(rng, writer, depth, most_names):
-    """A random form, of nested kinds up to `depth`."""
-    if depth == 0 or rng.random() < 0.1:
-        return writer.some(rng)
-    kind = rng.choice(['until'] * 6 + ['not'] * 3 + ['and'] * 4 + ['or'] * 3 + ['next'] * 2)
-
-    def part():
-        return random_form(rng, writer, depth - 1, most_names)
-
-    if kind == 'not':
-        return writer.negated(part())
-    if kind == 'next':
-        return writer.form('next', rng.choice(writer.acts), part())
-    if kind == 'until':
-        program = random_program(rng, writer.acts, rng.randint(1, most_names))
-        f = part() if rng.random() < 0.5 else writer.some(rng)
-        return writer.until(f, program, part())
-    return writer.form(kind, part(), part())
-
-
-def random_document(rng, small=False):
-    while True:
-        writer = random_writer(rng, small)
-        try:
-            parts = [random_form(rng, writer, rng.choice([2, 2, 3] if small else [2, 3, 3, 4]),
-                                 3 if small else rng.choice([3, 5]))
-                     for _ in range(rng.choice([1, 2] if small else [1, 1, 2, 3]))]
-            goal = parts[0]
-            for other in parts[1:]:
-                goal = writer.both(goal, other)
-            return writer.text(goal)
-        except NoRoom:
-            continue
-
-
-def alike_programs(rng, acts):
-    """Two programs with the same words."""
-    x = random_program(rng, acts, rng.randint(1, 2))
-    y = random_program(rng, acts, rng.randint(1, 2))
-    return rng.choice([
-        (f'({x})*', f'({x})*;({x})*'), (f'({x})*', f'(({x})*)*'), (f'({x})+({y})', f'({y})+({x})'),
-        (f'({x});({x})*', f'({x})*;({x})'), (f'(({x})+({y}))*', f'(({x})*;({y})*)*'),
-        (f'({x})*', f'(({x});({x}))*+({x});(({x});({x}))*'),
-        (f'({x});(({y})+({x}))', f'({x});({y})+({x});({x})'),
-        (f'(({x});({y}))*;({x})', f'({x});(({y});({x}))*')])
-
-
-def smaller_and_larger(rng, acts):
-    """Two programs, the words of the first among those of the second."""
-    x = random_program(rng, acts, rng.randint(1, 3))
-    y = random_program(rng, acts, rng.randint(1, 2))
-    return rng.choice([(x, f'({x})+({y})'), (x, f'({x})*'), (x, f'({x});({y})*'),
-                       (f'({x});({x})', f'({x})*'), (f'(({x});({x}))*', f'({x})*'),
-                       (f'({x});({y})', f'(({x})+({y}))*')])
-
-
-def contradiction(rng, writer):
-    """A form that no lasso meets, for one reason or another."""
-    f, g = writer.some(rng), writer.some(rng)
-    if rng.random() < 0.3:
-        g = random_form(rng, writer, 1, 2)
-    t = writer.true()
-    reason = rng.randrange(9)
-    if reason == 0:
-        x, y = alike_programs(rng, writer.acts)
-        if rng.random() < 0.5:
-            x, y = y, x
-        return writer.both(writer.until(f, x, g), writer.negated(writer.until(f, y, g)))
-    if reason == 1:
-        x, y = smaller_and_larger(rng, writer.acts)
-        return writer.both(writer.until(f, x, g), writer.negated(writer.until(f, y, g)))
-    if reason == 2:
-        x = random_program(rng, writer.acts, rng.randint(1, 4))
-        return writer.both(writer.always(g), writer.until(t, x, writer.negated(g)))
-    if reason == 3:
-        a = rng.choice(writer.acts)
-        return writer.both(writer.form('next', a, g), writer.form('next', a, writer.negated(g)))
-    if reason == 4:
-        never = writer.both(g, writer.negated(g))
-        return writer.until(f, random_program(rng, writer.acts, rng.randint(1, 5)), never)
-    if reason == 5:
-        return writer.both(writer.always(writer.finally_(g)),
-                           writer.finally_(writer.always(writer.negated(g))))
-    if reason == 6:
-        x = random_program(rng, writer.acts, rng.randint(2, 4))
-        once = writer.until(f, x, g)
-        return writer.both(once, writer.negated(writer.until(f, x, g, again=True)))
-    if reason == 7:
-        x = random_program(rng, writer.acts, rng.randint(1, 3))
-        return writer.until(f, x, contradiction(rng, writer))
-    return writer.form('or', contradiction(rng, writer), contradiction(rng, writer))
-
-
-def contradictory_document(rng):
-    while True:
-        writer = random_writer(rng)
-        try:
-            goal = contradiction(rng, writer)
-            if rng.random() < 0.3:
-                goal = writer.both(goal, random_form(rng, writer, 1, 2))
-            if rng.random() < 0.2:
-                goal = writer.form('next', rng.choice(writer.acts), goal)
-            return writer.text(goal)
-        except NoRoom:
-            continue
-
-
-def studied(text, most_nodes=MOST_NODES, most_edges=MOST_EDGES):
-    """A study whose graph is complete, or None if that takes too much."""
-    study = Study(most_nodes, most_edges, PATIENCE)
-    study.load(text)
-    try:
-        if study.grow(NO_LIMIT)[1] != 'complete':
-            return None
-    except TooLarge:
-        return None
-    return study
-
-
-def random_studied(rng, **limits):
-    while True:
-        text = random_document(rng) if rng.random() < 0.8 else contradictory_document(rng)
-        study = studied(text, **limits)
-        if study is not None:
-            return text, study
-
-
-def lines(*rows):
-    """A text of lines whose fields are parted by blanks here."""
-    return ''.join(row.replace(' ', '\t') + '\n' for row in rows).encode()
-
-
-PLAIN = lines('act a', 'prop p', 'form f prop p', 'goal f')
-REFUSED = lines('act a', 'goal f')
-
-
-# ---------------------------------------------------------------------------
-# Cases of load
-# ---------------------------------------------------------------------------
-
-PROGRAMS = [
-    '', 'a', 'b', 'zz', '+', ';', '*', '(', ')', '()', 'a+', 'a;', 'a+b', 'a;b', 'a*', 'a**', 'a***;b**',
-    'a++b', 'a;;b', 'a+;b', 'a;+b', '*a', 'a+*b', '(*a)', '(+a)', '(a+)', '(a;)', '(a', '(a))', 'a)',
-    '((a)', '(a)(b)', 'a(b)', '(a)b', '(a)*b', 'a*b', 'a*(b)', 'a b', ' a', 'a ', 'a; b', 'aB', 'A', 'Ab', '1a',
-    '_a', 'a_', 'a_1', '(a_1)', 'a-b', 'a.b', 'a|b', 'a?', 'a\r', '\x00', 'a\x00', '\xe9', 'a\xe9', '\x7f',
-    'a' * 16, 'a' * 17, 'a' * 18, '1' * 17, 'a+' + 'b' * 16, 'a+' + 'b' * 17, '(a;(' + 'b' * 17 + '))',
-    'a' * 16 + '*', 'a' * 17 + '+', 'a' * 16 + '!', 'a' * 17 + '!', '((((((((a))))))))', '(((((((((a)))))))))',
-    '((((((((', '(((((((((', '((((((((a', '((((((((a))))))))+((((((((b))))))))',
-    '((((((((a)))))))+((b))))', '(((((((a+(b))))))))', '((((((((a+(b)))))))))', '((((((((a)))))))', '(a+b)*;a',
-    '((a+b)*;(a;b)*)*', '(a+b)**;(((a)))', 'a;b+b;a', 'a+zz', 'zz;zz', 'a;' * 14 + 'a', 'a;' * 15 + 'a',
-    'a;' * 15 + 'zz', 'zz;' * 15 + 'zz', 'a+' * 15, 'a+' * 300 + 'b', 'a+' * 300, '(a*;b)*' + '*' * 3000, 'a' + '*' * 100 + 'b',
-]
-
-
-def load_cases(cases, rng):
-    def simple(program):
-        return b'act\ta\nact\tb\nprog\tx\t' + program.encode('latin-1') + b'\nform\tt\ttrue\ngoal\tt\n'
-
-    for program in PROGRAMS:
-        cases.load(simple(program))
-    for _ in range(60):
-        length = rng.randint(1, 12)
-        cases.load(simple(''.join(rng.choice('aabb(()))+;*') for _ in range(length))))
-    for _ in range(25):
-        # a well-formed program with one byte changed, put in or left out
-        program = random_program(rng, ['a', 'b'], rng.randint(2, 6))
-        at = rng.randrange(len(program))
-        program = program[:at] + rng.choice(['', 'a', 'B', '(', ')', '*', ';', '+', ' ']) + program[at + rng.randint(0, 1):]
-        cases.load(simple(program))
-
-    # numbers of acts, props, progs and forms, and weights, at their limits and beyond
-    t = ['form t true']
-    for count in (15, 16, 17, 18):
-        for kind in ('act', 'prop'):
-            head = ['act z'] if kind == 'prop' else []
-            cases.load(lines(*head, *[f'{kind} n{i}' for i in range(count)], *t, 'goal t'))
-        cases.load(lines('act a', *[f'prog n{i} a' for i in range(count)], *t, 'goal t'))
-    for count in (63, 64, 65):
-        cases.load(lines('act a', *[f'form n{i} true' for i in range(count)], 'goal n0'))
-    long = 'prog l ' + ';'.join(['a'] * 13)
-    heavy = ['act a', 'prog o a', 'prog oo a;a', long, *t, 'form u until t l t', 'form v until t l t',
-             'form w until t l t']      # 2 + 3 x 84 = 254
-    for tail in (['form n not t'], ['form n not t', 'form m not t'], ['form n until t o t'],
-                 ['form n true', 'form m until t o t'], []):
-        cases.load(lines(*heavy, *tail, 'goal u'))
-    cases.load(lines(*heavy[:-1], *t[:0], 'form n until t oo t', 'form m until t l t', 'goal u'))
-    for count in (14, 15):      # untils of 2 states each: 12 a piece, beside others
-        cases.load(lines('act a', 'prog o a', *t, *[f'form n{i} until t o t' for i in range(count)],
-                         *[f'form m{i} true' for i in range(43)], 'goal t'))
-    fifteen = 'prog l ' + '+'.join(['a'] * 15)
-    cases.load(lines('act a', fifteen, *t, 'form u until t l t', 'form v until t l t', 'goal v'))
-    cases.load(lines('act a', fifteen, *t, 'form u until t l t', 'form v until t l t', 'form w until t l t', 'goal v'))
-
-    # the length of the text, filled up with stars
-    def filled(length, tail=b'form\tt\ttrue\ngoal\tt\n'):
-        head = b'act\ta\nprog\tx\ta'
-        return head + b'*' * (length - len(head) - 1 - len(tail)) + b'\n' + tail
-
-    for length in (16383, 16384, 16385):
-        cases.load(filled(length))
-    cases.load(b'nonsense\n' + filled(16384))                   # above in length and faulty in line 1
-    cases.load(filled(16384, b'form\tt\ttrue\ngoal\tt'))        # no final line feed
-    cases.load(filled(16384, b'form\tt\ttrue\ngoal\tu\n'))
-
-    # ends of texts and of lines
-    for text in (b'', b'\n', b'\n\n', b'\t', b'\t\n', b'act', b'act\n', b'act\ta', b'act\ta\n', b'act\t\n', b'goal\t\n',
-                 b'act\ta\n\n', b'\nact\ta\n', b'act\ta\n\ngoal\tt\n', b'act\ta\r\n', b'act\ta\t\n', b' act\ta\n',
-                 b'act a\n', b'act\t a\n', b'act\ta\nform\tt\ttrue\ngoal\tt', b'act\ta\nform\tt\ttrue\n',
-                 b'act\ta\nform\tt\ttrue', b'act\ta\nform\tt\ttrue\ngoal\tt\n\n', b'act\ta\nform\tt\ttrue\ngoal\tt\nx',
-                 b'act\ta\nform\tt\ttrue\ngoal\tt\nact\tb\n', b'act\ta\nform\tt\ttrue\ngoal\tt\ngoal\tt\n',
-                 b'act\ta\nform\tt\ttrue\ngoal\tt\nact\tB\n', b'act\ta\nform\tt\ttrue\ngoal\tt\nact\ta',
-                 b'act\ta\nform\tt\ttrue\ngoal\tt\nprog\tx\t(\n', b'act\ta\nform\tt\ttrue\ngoal\tt\nact\tb\nbad\n',
-                 b'\xff\n', b'act\t\xff\n', b'act\ta\x00\n', b'act\ta\nACT\tb\n', b'acts\ta\n', b'ac\ta\n', b'act\ta\nform\tt\tTrue\n',
-                 b'act\ta\nform\tt\ttrue\ngoal\tt\t\n', b'act\ta\nform\tt\ttrue\ngoal\n', b'act\ta\nform\tt\ttrue\ngoal\tt\tt\n'):
-        cases.load(text)
-
-    # goal before any act, alone and together with other faults
-    for text in (lines('form t true', 'goal t'), lines('form t true', 'goal u'), lines('form t true', 'goal T'),
-                 lines('form t true', 'goal t t'), lines('form t true', 'goal t', 'act a'), lines('goal t'),
-                 lines('prop p', 'form t prop p', 'goal t'), lines('act t', 'goal t'), lines('goal'), lines('goal t', 'bad'),
-                 b'form\tt\ttrue\ngoal\tt'):
-        cases.load(text)
-
-    # names of 16 and 17 characters in each place, and malformed names in each place
-    shape = ('act {a}', 'prop {p}', 'prog {x} {in_x}', 'form {t} true', 'form {f} prop {in_f}', 'form {u} until {u1} {u2} {u3}',
-             'form {n} next {n1} {n2}', 'form {o} not {o1}', 'form {c} and {c1} {c2}', 'form {d} or {d1} {d2}', 'goal {g}')
-    plain = dict(a='a', p='p', x='x', in_x='a;a', t='t', f='f', in_f='p', u='u', u1='t', u2='x', u3='f', n='n', n1='a', n2='u',
-                 o='o', o1='n', c='c', c1='o', c2='u', d='d', d1='c', d2='f', g='d')
-    cases.load(lines(*[row.format(**plain) for row in shape]))
-    uses = {'a': ('a', 'in_x', 'n1'), 'p': ('p', 'in_f'), 'x': ('x', 'u2'), 't': ('t', 'u1'), 'f': ('f', 'u3', 'd2')}
-    for group in uses.values():
-        for long_name in ('m' * 16, 'm' * 17, 'm_0123456789_abc'):
-            named = {place: long_name for place in group}
-            cases.load(lines(*[row.format(**{**plain, **named}) for row in shape]))
-    for place in plain:
-        cases.load(lines(*[row.format(**{**plain, place: 'zz'}) for row in shape]))       # not declared
-        if place != 'in_x':
-            bad = rng.choice(['', 'A', '1', '_x', 'x-', 'm' * 17, 'x.', '\xe9', 'x ', 'x\x00'])
-            cases.load('\n'.join(row.replace(' ', '\t').format(**{**plain, place: bad}) for row in shape).encode('latin-1') + b'\n')
-    for place, other in (('f', 't'), ('u', 'f'), ('n', 't'), ('c', 'o'), ('d', 'u')):
-        cases.load(lines(*[row.format(**{**plain, place: plain[other]}) for row in shape]))      # repeated
-    cases.load(lines(*[row.format(**{key: 'a' if key in ('a', 'p', 'x', 't', 'in_f', 'u1', 'u2', 'n1', 'in_x') else value
-                                     for key, value in plain.items()}) for row in shape]))   # one name in four kinds
-    cases.load(lines('act act', 'prop prop', 'prog prog act', 'form true true', 'form until until true prog true', 'goal until'))
-    for row in ('act a', 'prop p', 'prog x a', 'form t true'):
-        cases.load(lines('act a', 'prop p', 'prog x a', 'form t true', row, 'goal t'))     # repeated
-    # an operand of another kind, of a later line, or the form itself
-    for row in ('form u until t a t', 'form u until x x t', 'form u until t x p', 'form u next x t', 'form u next p t', 'form u prop a',
-                'form u prop t', 'form u not p', 'form u not u', 'form u and t u', 'form u not v', 'prog y x', 'prog y a;y', 'prog y p'):
-        cases.load(lines('act a', 'prop p', 'prog x a', 'form t true', row, 'form v true', 'goal t'))
-    # field counts
-    for row in ('form', 'form u', 'form u true t', 'form u prop', 'form u prop p p', 'form u not', 'form u not t t', 'form u and t',
-                'form u and t t t', 'form u or t', 'form u or t t t', 'form u next a', 'form u next a t t', 'form u next t', 'form u until t x',
-                'form u until t x t t', 'form u until', 'form u maybe t', 'form u', 'form  true', 'form u  t', 'prog', 'prog y', 'prog y a a',
-                'prop', 'prop q q', 'act', 'act b b', 'goal', 'goal t t', 'make x', 'form u weak', 'form U maybe', 'form u xor t t'):
-        cases.load(lines('act a', 'prop p', 'prog x a', 'form t true', row, 'goal t'))
-
-    # two faults in one line, or in two: the order decides
-    many_progs = [f'prog n{i} a' for i in range(16)]
-    many_acts = [f'act n{i}' for i in range(16)]
-    many_props = [f'prop n{i}' for i in range(16)]
-    many_forms = [f'form n{i} true' for i in range(64)]
-    sixteen = 'a;' * 15 + 'a'
-    for text in (
-            lines('act a', 'prog X ('), lines('act a', 'prog x a', 'prog x (a'), lines('act a', 'prog x a', 'prog x a;zz)'),
-            lines('act a', 'prog x ' + 'zz;' * 15 + 'a'), lines('act a', 'prog x a', 'prog x ' + sixteen), lines('act a', 'prog x ' + sixteen + ';'),
-            lines('act a', 'prog x ' + sixteen), lines('act a', *many_progs, 'prog n16 a+'), lines('act a', *many_progs, 'prog n16 zz'),
-            lines('act a', *many_progs, 'prog n3 a'), lines('act a', *many_progs, 'prog n16 ' + sixteen), lines('act a', *many_progs, 'prog N a'),
-            lines(*many_acts, 'act n5'), lines(*many_acts, 'act N'), lines(*many_acts, 'act m m'), lines(*many_props, 'prop n15'),
-            lines(*many_props, 'prop m'), lines('act a', *many_forms, 'form n64 not zz'), lines('act a', *many_forms, 'form n0 true'),
-            lines('act a', *many_forms, 'form m not'), lines('act a', *many_forms, 'form m maybe'), lines('act a', *many_forms, 'goal zz'),
-            lines(*heavy, 'form u until t l t', 'goal u'), lines(*heavy, 'form n until t l zz', 'goal u'), lines(*heavy, 'form n until t l'),
-            lines(*heavy, 'form n until t l t', 'bad'), lines('act a', 'act a', 'bad'), lines('act a', 'bad', 'act a'),
-            lines('act a', 'prog x (', 'bad'), lines('act a', 'form F maybe'), lines('act a', 'form f maybe X'), lines('act a', 'form f not X Y'),
-            lines('act a', 'form f not zz', 'bad'), lines('act a', 'form t true', 'form t not zz'), b'act\ta\nprog\tx\t(', b'act\ta\nact\ta',
-            b'act\ta\nprog\tx\ta\tb(\n', b'act\ta\nprog\tX\t\n', b'act\ta\nprog\tx\t\n', b'act\ta\nprog\t\ta\n', b'act\ta\nprog\t\t\n'):
-        cases.load(text)
-
-    # random changes of valid documents
-    for _ in range(110):
-        text = mutated(rng, random_document(rng))
-        cases.load(text)
-    for _ in range(15):
-        cases.load(random_document(rng))
-
-
-def mutated(rng, text):
-    """A valid document with one to three changes."""
-    for _ in range(rng.choice([1, 1, 1, 2, 3])):
-        change = rng.randrange(9)
-        at = rng.randrange(len(text)) if text else 0
-        rows = text.split(b'\n')
-        row = rng.randrange(len(rows))
-        if change == 0:
-            text = text[:at] + bytes([rng.choice(b'abpqxf019_(*;+)\t\n \r\xffAZ')]) + text[at + 1:]
-        elif change == 1:
-            text = text[:at] + text[at + 1:]
-        elif change == 2:
-            text = text[:at] + bytes([rng.choice(b'abpqxf019_(*;+)\t\n A')]) + text[at:]
-        elif change == 3:
-            rows.pop(row)
-            text = b'\n'.join(rows)
-        elif change == 4:
-            rows.insert(rng.randrange(len(rows) + 1), rows[row])
-            text = b'\n'.join(rows)
-        elif change == 5:
-            other = rng.randrange(len(rows))
-            rows[row], rows[other] = rows[other], rows[row]
-            text = b'\n'.join(rows)
-        elif change == 6:
-            text = text[:at]
-        else:
-            # one field becomes a field of another line
-            fields = rows[row].split(b'\t')
-            fields[rng.randrange(len(fields))] = rng.choice(rng.choice(rows).split(b'\t'))
-            rows[row] = b'\t'.join(fields)
-            text = b'\n'.join(rows)
-    return text
-
-
-# ---------------------------------------------------------------------------
 # Cases of growing and deciding
 # ---------------------------------------------------------------------------
-
-def stated_documents():
-    """Small documents with known graphs."""
-    head = ['act a', 'prop p', 'prog s a*', 'prog r a*;a*', 'prog e (a;a)*', 'form t true', 'form f prop p']
-    until = 'form u until t s f'
-    return [
-        PLAIN, lines(*head, until, 'goal u'), lines(*head, 'form n not f', 'form b and f n', 'goal b'),
-        lines('act a', 'act b', 'form t true', 'form x next a t', 'form y next b t', 'form z and x y', 'goal z'),
-        lines(*head, until, 'form v until t r f', 'form n not v', 'form b and u n', 'goal b'),
-        lines(*head, 'form v until t e f', 'goal v'), lines(*head, 'form v until t e f', 'form n not v', 'goal n'),
-        lines('act a', 'form t true', 'goal t'), lines('act a', 'form t true', 'form n not t', 'goal n'),
-        lines('act a', 'act b', 'form t true', 'goal t'), lines('act a', 'act b', 'prog s a', 'form t true', 'form n next b t', 'form u until n s t', 'goal u'),
-        # two forms of one proposition
-        lines('act a', 'prop p', 'form f prop p', 'form g prop p', 'form n not g', 'form b and f n', 'goal b'),
-        # a step that reaches no state
-        lines('act a', 'act b', 'prog s a;b', 'form t true', 'form n next b t', 'form u until t s t', 'form x and n u', 'goal x'),
-        lines(*[f'act n{i}' for i in range(16)], *[f'prop n{i}' for i in range(16)], 'form f prop n15', 'form n next n15 f', 'goal n'),
-    ]
-
 
 def verdict_cases(cases, rng):
     for text in stated_documents():
@@ -585,7 +129,10 @@ def verdict_cases(cases, rng):
 
     wanted = {'found': 165, 'none': 95, 'none without node': 15}
     while any(wanted.values()):
-        text = random_document(rng) if wanted['found'] and rng.random() < 0.7 else contradictory_document(rng)
+        if wanted['found'] and rng.random() < 0.7:
+            text = random_document(rng)
+        else:
+            text = contradictory_document(rng)
         study = studied(text)
         if study is None or len(study.nodes) < 12 and rng.random() < 0.6:
             continue
@@ -607,8 +154,10 @@ def verdict_cases(cases, rng):
         nodes, edges = len(study.nodes), study.edge_count()
         if nodes < 4:
             continue
-        tables = rng.choice([(nodes - 1, edges), (nodes, edges - 1), (rng.randrange(nodes), edges + 7),
-                             (nodes + 7, rng.randrange(edges)) if edges else (0, 0), (rng.randrange(nodes), rng.randrange(edges + 1))])
+        tables = rng.choice([(nodes - 1, edges), (nodes, edges - 1),
+                             (rng.randrange(nodes), edges + 7),
+                             (nodes + 7, rng.randrange(edges)) if edges else (0, 0),
+                             (rng.randrange(nodes), rng.randrange(edges + 1))])
         levels = orders.Levels(study.graph)
         if len(levels.first) > tables[0] and rng.random() < 0.85:
             continue        # full at once, which is dull
@@ -627,74 +176,12 @@ def verdict_cases(cases, rng):
         cases.verdict(*tables, text)
 
     # refused documents
-    for text in (b'', REFUSED, PLAIN[:-1], PLAIN + b'\n', lines('act a', 'prog x a;(a', 'goal t'), lines('act a', 'act a'), lines('form t true', 'goal t'),
+    for text in (b'', REFUSED, PLAIN[:-1], PLAIN + b'\n', lines('act a', 'prog x a;(a', 'goal t'),
+                 lines('act a', 'act a'), lines('form t true', 'goal t'),
                  b'x' * 16385, lines(*[f'act n{i}' for i in range(17)])):
         cases.verdict(512, 4096, text)
     for _ in range(15):
         cases.verdict(512, 4096, faulty_document(rng))
-
-
-def faulty_document(rng):
-    while True:
-        text = mutated(rng, random_document(rng))
-        try:
-            load_document(text)
-        except Refused:
-            return text
-
-
-def choice_of(name, count):
-    """Lines of a form with so many expansions, and its name: an or of true forms."""
-    rows = [f'form {name}{i} true' for i in range(count)]
-    last = f'{name}0'
-    for i in range(1, count):
-        rows.append(f'form {name}o{i} or {name}{i} {last}')
-        last = f'{name}o{i}'
-    return rows, last
-
-
-def product_of(counts):
-    """Lines of a form whose number of expansions is the product of the counts, and its name."""
-    rows, goal = [], None
-    for name, count in zip('bcde', counts):
-        more, last = choice_of(name, count)
-        rows += more
-        if goal is not None:
-            rows.append(f'form {name}x and {goal} {last}')
-            last = f'{name}x'
-        goal = last
-    return rows, goal
-
-
-def many_first(acts, *counts):
-    """A document with acts x (product of the counts) first nodes."""
-    rows, goal = product_of(counts)
-    return lines(*[f'act n{i}' for i in range(acts)], *rows, f'goal {goal}')
-
-
-def always_choice(*counts):
-    """One act, and always one of (product of the counts) alternatives: every node
-    has so many successors, and there are five times so many nodes."""
-    rows, last = product_of(counts)
-    return lines('act a', 'prog x a*', *rows, 'form t true', f'form y not {last}', 'form u until t x y', 'form z not u', 'goal z')
-
-
-def limit_documents():
-    """Graphs at the greatest tables that count, with the tables to use."""
-    result = []
-    # 16 acts and 256 expansions of the goal: 4,096 first nodes, and no place for another
-    full = many_first(16, 16, 16)
-    result += [((4096, 65536), full), ((9000, 99999), full), ((4095, 65536), full)]
-    # 260 expansions would be 4,160 first nodes
-    result.append(((9000, 99999), many_first(16, 4, 5, 13)))
-    # 252 expansions: 4,032 first nodes and 64 more, 16 edges each: 4,096 nodes and 65,536 edges
-    exact = many_first(16, 7, 6, 6)
-    result += [((4096, 65536), exact), ((70000, 70000), exact)]
-    # 5 x 128 nodes of 128 edges each: full when 512 of them are opened
-    edges = always_choice(8, 16)
-    result += [((9000, 99999), edges), ((640, 65536), edges), ((640, 1279), edges), ((256, 65536), edges),
-               ((255, 65536), edges), ((128, 65536), edges), ((127, 65536), edges)]
-    return result
 
 
 def grow_cases(cases, rng):
@@ -702,7 +189,8 @@ def grow_cases(cases, rng):
         study = studied(text)
         levels = orders.Levels(study.graph)
         nodes, edges = len(study.nodes), study.edge_count()
-        for budgets in ([0, 1, 0, 1, 1, 1, 50, 0, 7], [1] * (nodes + 3), [0, 0, 1000, 1000, 0], [nodes, 1, 1], [nodes + 1, 0], [nodes + 2]):
+        for budgets in ([0, 1, 0, 1, 1, 1, 50, 0, 7], [1] * (nodes + 3), [0, 0, 1000, 1000, 0],
+                        [nodes, 1, 1], [nodes + 1, 0], [nodes + 2]):
             for tables in ((512, 4096), (nodes, edges)):
                 if orders.is_sure(levels, *tables, budgets):
                     cases.grow(*tables, budgets, text)
@@ -718,12 +206,14 @@ def grow_cases(cases, rng):
         if nodes < 4:
             continue
         levels = orders.Levels(study.graph)
-        tables = rng.choice([(512, 4096), (nodes, edges), (rng.randrange(nodes), edges), (nodes, rng.randrange(max(edges, 1)))])
+        tables = rng.choice([(512, 4096), (nodes, edges), (rng.randrange(nodes), edges),
+                             (nodes, rng.randrange(max(edges, 1)))])
         for _ in range(6):
             budgets = rng.choice([
                 [rng.choice([0, 1, 1, 2, 3, 5, 8, 13, 40]) for _ in range(rng.randint(1, 7))],
                 [1 + len(levels.first), rng.randrange(4), 1000, 5],
-                [1, len(levels.first), 0, 2], [1, len(levels.first) - 1, 1, 3], [nodes, 1, 1], [nodes + 1, 1]])
+                [1, len(levels.first), 0, 2], [1, len(levels.first) - 1, 1, 3], [nodes, 1, 1],
+                [nodes + 1, 1]])
             try:
                 reports = orders.grown(levels, *tables, budgets)
             except orders.Undetermined:
@@ -736,8 +226,10 @@ def grow_cases(cases, rng):
 
     text = always_choice(8, 16)
     levels = orders.Levels(Graph(load_document(text)))
-    for nodes, edges, budgets in ((5000, 70000, [0, 1, 1, 126, 0, 1, 100, 283, 1, 0, 5, 0]), (640, 65536, [513, 1, 0]),
-                                  (640, 65535, [513, 1, 0]), (640, 65536, [512, 1, 1]), (639, 65536, [384, 1, 1, 0])):
+    for nodes, edges, budgets in (
+            (5000, 70000, [0, 1, 1, 126, 0, 1, 100, 283, 1, 0, 5, 0]),
+            (640, 65536, [513, 1, 0]), (640, 65535, [513, 1, 0]), (640, 65536, [512, 1, 1]),
+            (639, 65536, [384, 1, 1, 0])):
         assert orders.is_sure(levels, nodes, edges, budgets)
         cases.grow(nodes, edges, budgets, text)
     cases.grow(512, 4096, [5, 0], REFUSED)
@@ -773,30 +265,38 @@ def changed_lasso(rng, document, lasso):
 
 def turning_cases(cases, rng):
     """Untils that need several turns of the loop, or never come true for all turns."""
-    for program, length in (('(a;a)*', 2), ('(a;a;a)*', 3), ('a;(a;a;a)*', 3), ('(a;a;a;a;a)*;a;a', 5), ('(a;a;a+a;a;a;a;a)*', 3)):
+    for program in ('(a;a)*', '(a;a;a)*', 'a;(a;a;a)*', '(a;a;a;a;a)*;a;a', '(a;a;a+a;a;a;a;a)*'):
         for negated in (False, True):
-            text = lines('act a', 'prop p', 'prop q', f'prog x {program}', 'form p prop p', 'form q prop q', 'form u until q x p',
-                         'form n not u', 'goal n' if negated else 'goal u')
+            text = lines('act a', 'prop p', 'prop q', f'prog x {program}', 'form p prop p',
+                         'form q prop q', 'form u until q x p', 'form n not u',
+                         'goal n' if negated else 'goal u')
             for loop in rng.sample([1, 2, 3, 4, 5, 6, 7, 9], 4):
                 stem = rng.randrange(4)
                 marked = rng.randrange(stem + loop)
                 hole = rng.choice([None, None, rng.randrange(stem + loop)])     # where q is missing
-                steps = [Step(0, 0, frozenset([0] * (i == marked) + [1] * (i != hole))) for i in range(stem + loop)]
+                steps = [Step(0, 0, frozenset([0] * (i == marked) + [1] * (i != hole)))
+                         for i in range(stem + loop)]
                 cases.judge(Lasso(steps, stem), 4 * len(steps), text)
     # two actions: the program must keep in step with the loop
-    for program in ('(a;b)*', '(a;b;a)*', '(a;b;b;a)*;a', '((a+b);(a+b);(a+b))*', '(a*;b)*;a;a', '(a;(a+b))*;b'):
-        text = lines('act a', 'act b', 'prop p', f'prog x {program}', 'form t true', 'form p prop p', 'form u until t x p', 'goal u')
+    for program in ('(a;b)*', '(a;b;a)*', '(a;b;b;a)*;a', '((a+b);(a+b);(a+b))*', '(a*;b)*;a;a',
+                    '(a;(a+b))*;b'):
+        text = lines('act a', 'act b', 'prop p', f'prog x {program}', 'form t true',
+                     'form p prop p', 'form u until t x p', 'goal u')
         for loop in (1, 2, 3, 4, 5):
             stem = rng.randrange(3)
-            pattern = rng.choice([[0, 1], [0, 1, 0], [0, 0, 1], [0], [rng.randrange(2) for _ in range(stem + loop)]])
+            pattern = rng.choice([[0, 1], [0, 1, 0], [0, 0, 1], [0],
+                                  [rng.randrange(2) for _ in range(stem + loop)]])
             marked = rng.randrange(stem + loop)
-            steps = [Step(pattern[i % len(pattern)], 0, frozenset([0] * (i == marked))) for i in range(stem + loop)]
+            steps = [Step(pattern[i % len(pattern)], 0, frozenset([0] * (i == marked)))
+                     for i in range(stem + loop)]
             cases.judge(Lasso(steps, stem), 4 * len(steps), text)
     # nested: always, every third step, an even way to p; and an until within an until on both sides
-    nested = lines('act a', 'prop p', 'prop q', 'prog two (a;a)*', 'prog three (a;a;a)*', 'form t true', 'form p prop p', 'form q prop q',
-                   'form u until t two p', 'form n not u', 'form v until t three n', 'form w not v', 'goal w')
-    sides = lines('act a', 'prop p', 'prop q', 'prog two (a;a)*', 'prog three (a;a;a)*', 'prog s a*', 'form p prop p', 'form q prop q',
-                  'form u until p two q', 'form v until q three p', 'form w until u s v', 'form n not w', 'form o or w n', 'form z and o w', 'goal z')
+    head = ['act a', 'prop p', 'prop q', 'prog two (a;a)*', 'prog three (a;a;a)*', 'prog s a*',
+            'form t true', 'form p prop p', 'form q prop q']
+    nested = lines(*head, 'form u until t two p', 'form n not u', 'form v until t three n',
+                   'form w not v', 'goal w')
+    sides = lines(*head, 'form u until p two q', 'form v until q three p', 'form w until u s v',
+                  'form n not w', 'form o or w n', 'form z and o w', 'goal z')
     for text in (nested, sides):
         document = load_document(text)
         for _ in range(20):
@@ -866,8 +366,9 @@ def random_table(rng, document, states=None, acts=None):
     if acts is None:
         acts = [a for a in range(len(document.acts)) if rng.random() < 0.8]
         acts += [a for a in (len(document.acts), 7, 15) if rng.random() < 0.1]
-    shown = len(document.props)
-    records = [(rng.random() < 0.35, [p for p in range(16) if p < shown and rng.random() < 0.5 or p >= shown and rng.random() < 0.03])
+    # marks that are not declared are rare
+    records = [(rng.random() < 0.35,
+                [p for p in range(16) if rng.random() < (0.5 if p < len(document.props) else 0.03)])
                for _ in range(count)]
     if not any(starts for starts, _marks in records) and rng.random() < 0.9:
         records[0] = (True, records[0][1])
@@ -881,9 +382,9 @@ def random_table(rng, document, states=None, acts=None):
         if rows:
             rows.insert(rng.randrange(len(rows) + 1), rng.choice(rows))
     for _ in range(rng.choice([0, 0, 1, 2])):
-        rows.insert(rng.randrange(len(rows) + 1),
-                    rng.choice([(count, 0, 0), (0, 0, count), (0, 16, 0), (0, 255, 0), (65535, 0, 0), (0, 0, 65535),
-                                (0, rng.randrange(16), rng.randrange(count))]))
+        outside = [(count, 0, 0), (0, 0, count), (0, 16, 0), (0, 255, 0), (65535, 0, 0),
+                   (0, 0, 65535), (0, rng.randrange(16), rng.randrange(count))]
+        rows.insert(rng.randrange(len(rows) + 1), rng.choice(outside))
     return Table(acts, records, rows)
 
 
@@ -975,19 +476,23 @@ def audit_cases(cases, rng):
         cases.audit(Lasso([step], 0), 4, plan, PLAIN)
     cases.audit(Lasso([step], 0), 4, plain, REFUSED)
     cases.audit(Lasso([step], 1), 0, empty_plans()[0], REFUSED)
-    # the last state of the largest joint, and one beyond it
+    # once around the largest joint, and not quite; a state beyond the count
     large = Plan(2, ring(64, [0]), ring(64, [0]))
-    around = [Step(0, (i % 64) * 65, frozenset([0])) for i in range(64)]
+    around = [Step(0, i * 65, frozenset([0])) for i in range(64)]
     cases.audit(Lasso(around, 0), 256, large, PLAIN)
     cases.audit(Lasso(around[:63], 0), 252, large, PLAIN)
     cases.audit(Lasso([step._replace(state=5)], 0), 4, plain, PLAIN)
+    for table in odd_tables():
+        cases.audit(Lasso([step], 0), 4, Plan(1, table), PLAIN)
+        cases.audit(Lasso([step], 0), 4, Plan(2, Table([3], [(True, [])], []), table), PLAIN)
     # a mark that is not declared is not compared
     cases.audit(Lasso([step], 0), 4, Plan(1, Table([0], [(True, [0, 9])], [(0, 0, 0)])), PLAIN)
 
 
 def ring(count, marks, acts=(0,)):
     """States in a circle, each with the marks, the first one starting."""
-    return Table(list(acts), [(i == 0, marks) for i in range(count)], [(i, acts[0], (i + 1) % count) for i in range(count)])
+    return Table(list(acts), [(i == 0, marks) for i in range(count)],
+                 [(i, acts[0], (i + 1) % count) for i in range(count)])
 
 
 def split_ring(count):
@@ -996,20 +501,33 @@ def split_ring(count):
     return Plan(2, ring(left, [0], (0,)), ring(count // left, [1], (1,)))
 
 
+def odd_tables():
+    """One state: without start, without moves, with other marks, with an action outside the
+    set or not declared; and last one that serves."""
+    return [Table([0], [(False, [0])], [(0, 0, 0)]), Table([0], [(True, [0])], []),
+            Table([0], [(True, [])], [(0, 0, 0)]), Table([1], [(True, [0])], [(0, 1, 0)]),
+            Table([], [(True, [0])], [(0, 0, 0)]), Table([1], [(True, [0])], [(0, 0, 0)]),
+            Table([0], [(True, [0])], [(0, 0, 1), (1, 0, 0), (0, 16, 0)]),
+            Table([0, 1], [(True, [0, 15])], [(0, 0, 0), (0, 1, 0), (0, 0, 0)])]
+
+
 def empty_plans():
     """Systems with count 0: too large, or without any state."""
     def bare(count, acts=(0,)):
         return Table(list(acts), [(1, [0])] * count, [(0, 0, 0)])
 
     one = bare(1)
-    return [Plan(2, bare(65), bare(64)), Plan(1, bare(0)), Plan(2, bare(0), one), Plan(2, one, bare(0)),
-            Plan(3, bare(65), bare(64), one), Plan(4, one, bare(64), bare(65)), Plan(3, bare(64), bare(64), bare(2)),
+    return [Plan(2, bare(65), bare(64)), Plan(1, bare(0)), Plan(2, bare(0), one),
+            Plan(2, one, bare(0)), Plan(3, bare(65), bare(64), one),
+            Plan(4, one, bare(64), bare(65)), Plan(3, bare(64), bare(64), bare(2)),
             Plan(4, bare(2), bare(64), bare(64))]
 
 
 def record_plans():
     """As many records as a listed system can have, and one more."""
-    return [Plan(1, Table([0], [(i == 0, [0]) for i in range(count)], [(0, 0, 0), (0, 0, 4095), (4095, 0, 4096)])) for count in (4096, 4097)]
+    rows = [(0, 0, 0), (0, 0, 4095), (4095, 0, 4096)]
+    return [Plan(1, Table([0], [(i == 0, [0]) for i in range(count)], rows))
+            for count in (4096, 4097)]
 
 
 def examine_cases(cases, rng):
@@ -1029,11 +547,13 @@ def examine_cases(cases, rng):
         if wanted[outcome]:
             wanted[outcome] -= 1
             more = rng.choice([0, 0, 1, 100])
-            cases.examine(len(study.nodes) + more, study.edge_count() + more, 4 * pairs + more, 2 * pairs + more, plan, text)
+            cases.examine(len(study.nodes) + more, study.edge_count() + more, 4 * pairs + more,
+                          2 * pairs + more, plan, text)
 
     # too few places: 5 nodes, 5 edges
     two = Plan(1, ring(2, [0]))
-    for nodes, edges, work, places in ((5, 5, 40, 20), (5, 5, 39, 20), (5, 5, 40, 19), (5, 5, 0, 0), (4, 5, 40, 20), (5, 4, 40, 20), (0, 0, 0, 0),
+    for nodes, edges, work, places in ((5, 5, 40, 20), (5, 5, 39, 20), (5, 5, 40, 19), (5, 5, 0, 0),
+                                       (4, 5, 40, 20), (5, 4, 40, 20), (0, 0, 0, 0),
                                        (5, 5, 41, 21), (4, 4, 0, 0)):
         cases.examine(nodes, edges, work, places, two, PLAIN)
     for plan in empty_plans():
@@ -1046,12 +566,11 @@ def examine_cases(cases, rng):
     cases.examine(5, 5, 0, 0, empty_plans()[1], b'')
     # no node: no pair, so no place is needed
     cases.examine(0, 0, 0, 0, two, lines('act a', 'form t true', 'form n not t', 'goal n'))
-    # a system without start, without moves, with other marks, with other actions
-    for table in (Table([0], [(False, [0])], [(0, 0, 0)]), Table([0], [(True, [0])], []), Table([0], [(True, [])], [(0, 0, 0)]),
-                  Table([1], [(True, [0])], [(0, 1, 0)]), Table([], [(True, [0])], [(0, 0, 0)]), Table([0, 1], [(True, [0, 15])], [(0, 0, 0), (0, 1, 0)])):
+    for table in odd_tables():
         cases.examine(5, 5, 20, 10, Plan(1, table), PLAIN)
+        cases.examine(5, 5, 20, 10, Plan(2, table, Table([3], [(True, [])], [])), PLAIN)
 
-    # pairs at the limit and beyond: 64 x 64 states with 5, 8, 15, 16 and more nodes
+    # pairs at the limit and beyond: 4,096 states with 5 and 16 nodes, and with more
     def with_nodes(count):
         """A document whose graph has so many nodes."""
         local = random.Random(count)
@@ -1084,36 +603,50 @@ def examine_cases(cases, rng):
 # Cases of lasso texts
 # ---------------------------------------------------------------------------
 
-LASSO_DOCUMENT = lines('act a', 'act go_on', 'act ' + 'm' * 16, 'prop p', 'prop q', 'prop a', 'prop ' + 'n' * 16, 'form f prop p', 'goal f')
+LASSO_DOCUMENT = lines('act a', 'act go_on', 'act ' + 'm' * 16, 'prop p', 'prop q', 'prop a',
+                       'prop ' + 'n' * 16, 'form f prop p', 'goal f')
 
 
 def scan_cases(cases, rng):
     good = 'loop a 0 -'
     first = 'stem a 0 p'
+    # a bar stands for a line feed, a blank for a tab
     texts = [
-        '', good, first, first + '|' + good, good + '|' + first, good + '|' + good, first + '|' + first, first + '|' + good + '|' + good,
-        good + '|' + first + '|' + good, first + '|' + good + '|' + first + '|' + good,
+        '', good, first, f'{first}|{good}', f'{good}|{first}', f'{good}|{good}',
+        f'{first}|{first}', f'{first}|{good}|{good}', f'{good}|{first}|{good}',
+        f'{first}|{good}|{first}|{good}',
         # fields and words
-        'loop a 0', 'loop a 0 - -', 'loop a', 'loop', 'Loop a 0 -', 'loo a 0 -', 'loops a 0 -', 'stemm a 0 -', ' loop a 0 -', 'loop a 0 - ',
-        'loop  0 -', 'loop a  -', 'loop a 0 ', ' a 0 -', 'loop a 0 -|', 'loop a 0 -||' + good, '|' + good,
+        'loop a 0', 'loop a 0 - -', 'loop a', 'loop', 'Loop a 0 -', 'loo a 0 -', 'loops a 0 -',
+        'stemm a 0 -', ' loop a 0 -', 'loop a 0 - ', 'loop  0 -', 'loop a  -', 'loop a 0 ',
+        ' a 0 -', f'{good}|', f'{good}||{good}', f'|{good}',
         # actions
-        'loop go_on 0 -', 'loop ' + 'm' * 16 + ' 0 -', 'loop ' + 'm' * 17 + ' 0 -', 'loop A 0 -', 'loop 1 0 -', 'loop zz 0 -', 'loop p 0 -', 'loop _ 0 -',
+        'loop go_on 0 -', 'loop ' + 'm' * 16 + ' 0 -', 'loop ' + 'm' * 17 + ' 0 -', 'loop A 0 -',
+        'loop 1 0 -', 'loop zz 0 -', 'loop p 0 -', 'loop _ 0 -',
         # states
-        'loop a 7 -', 'loop a 4095 -', 'loop a 4096 -', 'loop a 9999 -', 'loop a 10000 -', 'loop a 65536 -', 'loop a 4294967296 -',
-        'loop a 18446744073709551616 -', 'loop a 00 -', 'loop a 01 -', 'loop a 0004095 -', 'loop a +1 -', 'loop a -1 -', 'loop a x -', 'loop a 1x -', 'loop a 0x1 -', 'loop a 4.0 -',
+        'loop a 7 -', 'loop a 4095 -', 'loop a 4096 -', 'loop a 9999 -', 'loop a 10000 -',
+        'loop a 65536 -', 'loop a 4294967296 -', 'loop a 18446744073709551616 -', 'loop a 00 -',
+        'loop a 01 -', 'loop a 0004095 -', 'loop a +1 -', 'loop a -1 -', 'loop a x -',
+        'loop a 1x -', 'loop a 0x1 -', 'loop a 4.0 -',
         # marks
-        'loop a 0 p', 'loop a 0 q', 'loop a 0 p,q', 'loop a 0 q,p', 'loop a 0 p,p', 'loop a 0 p,q,a,' + 'n' * 16, 'loop a 0 p,a,q', 'loop a 0 a,' + 'n' * 16,
-        'loop a 0 ' + 'n' * 16 + ',a', 'loop a 0 p,', 'loop a 0 ,p', 'loop a 0 p,,q', 'loop a 0 ,', 'loop a 0 --', 'loop a 0 -,p', 'loop a 0 p,-', 'loop a 0 P', 'loop a 0 p,Q',
-        'loop a 0 zz', 'loop a 0 p,zz', 'loop a 0 zz,p', 'loop a 0 zz,zz', 'loop a 0 zz,yy', 'loop a 0 q,zz,p', 'loop a 0 p,zz,p', 'loop a 0 go_on', 'loop a 0 ' + 'n' * 17, 'loop a 0 p;q', 'loop a 0 p,q|bad',
+        'loop a 0 p', 'loop a 0 q', 'loop a 0 p,q', 'loop a 0 q,p', 'loop a 0 p,p',
+        'loop a 0 p,q,a,' + 'n' * 16, 'loop a 0 p,a,q', 'loop a 0 a,' + 'n' * 16,
+        'loop a 0 ' + 'n' * 16 + ',a', 'loop a 0 p,', 'loop a 0 ,p', 'loop a 0 p,,q', 'loop a 0 ,',
+        'loop a 0 --', 'loop a 0 -,p', 'loop a 0 p,-', 'loop a 0 P', 'loop a 0 p,Q',
+        'loop a 0 zz', 'loop a 0 p,zz', 'loop a 0 zz,p', 'loop a 0 zz,zz', 'loop a 0 zz,yy',
+        'loop a 0 q,zz,p', 'loop a 0 p,zz,p', 'loop a 0 go_on', 'loop a 0 ' + 'n' * 17,
+        'loop a 0 p;q', 'loop a 0 p,q|bad',
         # two faults
-        'loop zz 0 q,p', 'loop zz 4096 -', 'loop zz 0 P', 'loop a 0 zz|bad', 'bad|loop a 0 zz', 'loop zz 0 zz', good + '|' + first + '|loop zz 0 -', good + '|' + first + '|bad',
-        first + '|bad', first + '|loop zz 0 -', 'stem zz 0 -', 'stem a 0 p,p',
+        'loop zz 0 q,p', 'loop zz 4096 -', 'loop zz 0 P', 'loop a 0 zz|bad', 'bad|loop a 0 zz',
+        'loop zz 0 zz', f'{good}|{first}|loop zz 0 -', f'{good}|{first}|bad', f'{first}|bad',
+        f'{first}|loop zz 0 -', 'stem zz 0 -', 'stem a 0 p,p',
     ]
     for text in texts:
         whole = text.replace('|', '\n').replace(' ', '\t').encode()
         cases.scan(8, whole + b'\n' if text else b'', LASSO_DOCUMENT)
-    for whole in (b'\n', b'loop\ta\t0\t-', b'loop\ta\t0\t-\nloop', b'loop\ta\t0\t-\n\t', b'bad', b'bad\nloop', b'stem\ta\t0\t-\nloop\ta\t0\t-', b'loop\ta\t0\t-\r\n',
-                  b'loop\ta\t0\t\xff\n', b'\xff\n', b'loop\ta\t0\tp\x00\n', b'loop a 0 -\n', b'loop\tzz\t0\t-', b'loop\ta\t0\t-\n\x00'):
+    for whole in (b'\n', b'loop\ta\t0\t-', b'loop\ta\t0\t-\nloop', b'loop\ta\t0\t-\n\t', b'bad',
+                  b'bad\nloop', b'stem\ta\t0\t-\nloop\ta\t0\t-', b'loop\ta\t0\t-\r\n',
+                  b'loop\ta\t0\t\xff\n', b'\xff\n', b'loop\ta\t0\tp\x00\n', b'loop a 0 -\n',
+                  b'loop\tzz\t0\t-', b'loop\ta\t0\t-\n\x00'):
         cases.scan(8, whole, LASSO_DOCUMENT)
     # places
     text = b'stem\ta\t0\tp\n' * 3 + b'loop\tgo_on\t12\t-\n' * 2
@@ -1125,19 +658,16 @@ def scan_cases(cases, rng):
     for text in (b'', b'loop\ta\t0\t-\n', b'bad'):
         cases.scan(8, text, REFUSED)
     # random lassos of random documents, some changed
-    document = load_document(LASSO_DOCUMENT)
     for i in range(60):
-        text = LASSO_DOCUMENT
-        if i % 3 == 0:
-            text = random_document(rng)
-            document = load_document(text)
-        else:
-            document = load_document(text)
+        text = LASSO_DOCUMENT if i % 3 else random_document(rng)
+        document = load_document(text)
         lasso = random_lasso(rng, document)
         whole = print_lasso(document, lasso)
         if rng.random() < 0.5:
             at = rng.randrange(len(whole))
-            whole = whole[:at] + rng.choice([b'', b'\t', b'\n', b'a', b'p', b',', b'-', b'0', b'5', b'loop', b'Z']) + whole[at + rng.randint(0, 1):]
+            put_in = rng.choice([b'', b'\t', b'\n', b'a', b'p', b',', b'-', b'0', b'5', b'loop',
+                                 b'Z'])
+            whole = whole[:at] + put_in + whole[at + rng.randint(0, 1):]
         cases.scan(rng.choice([16, 16, len(lasso.steps), len(lasso.steps) - 1]), whole, text)
 
 
@@ -1162,10 +692,12 @@ def print_cases(cases, rng):
 def large_cases(cases, seed):
     """Lassos at the greatest number of steps; they are long, so each seed has only two."""
     step = Step(0, 0, frozenset())
-    text = lines('act a', 'prop p', 'prog x (a;a;a)*', 'form t true', 'form p prop p', 'form u until t x p', 'goal u')
+    text = lines('act a', 'prop p', 'prog x (a;a;a)*', 'form t true', 'form p prop p',
+                 'form u until t x p', 'goal u')
     line = b'loop\ta\t0\t-\n'
     if seed % 3 == 1:
-        # p at the second step only: 131,072 = 3 x 43,690 + 2, so three turns reach it from step 0
+        # p at the second step only: from step 0 it is 1 step away, then 1 + 131,072, a multiple
+        # of 3, so it is reached in the second turn
         steps = [step, step._replace(marks=frozenset([0]))] + [step] * 131070
         cases.judge(Lasso(steps, 0), 4 * 131072, text)
         cases.judge(Lasso(steps + [step], 0), 4 * 131073, text)

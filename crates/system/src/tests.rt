@@ -83,8 +83,21 @@ fn three_high<A: System, B: System, C: System>(a: A, b: B, c: C, state: usize) -
 // State 1 of the left and state 2 of three of the right are state 5.
 #[test]
 fn joint_states() -> Result<(), Fail> {
-    let lefts = [BLANK, StateRecord { starts: true, marks: 2 }];
-    let rights = [BLANK, BLANK, StateRecord { starts: true, marks: 4 }];
+    let lefts = [
+        BLANK,
+        StateRecord {
+            starts: true,
+            marks: 2,
+        },
+    ];
+    let rights = [
+        BLANK,
+        BLANK,
+        StateRecord {
+            starts: true,
+            marks: 4,
+        },
+    ];
     let both = Joint::new(Listed::new(&[], &lefts, 0), Listed::new(&[], &rights, 0));
     check_eq(both.count(), 6)?;
     check(both.starts(5))?;
@@ -92,26 +105,63 @@ fn joint_states() -> Result<(), Fail> {
     check(!both.starts(4) && !both.starts(2) && !both.starts(6))
 }
 
+fn listed_count(records: &[StateRecord]) -> usize {
+    Listed::new(&[], records, 0).count()
+}
+
 #[test]
 fn limits() -> Result<(), Fail> {
-    check_eq(Joint::new(Counter { size: 64 }, Counter { size: 64 }).count(), 4096)?;
-    check_eq(Joint::new(Counter { size: 65 }, Counter { size: 64 }).count(), 0)?;
-    let many = [BLANK; 4097];
-    check_eq(Listed::new(&[], &many, 0).count(), 0)?;
-    check_eq(Listed::new(&[], &many[1..4097], 0).count(), 4096)
+    check_eq(
+        Joint::new(Counter { size: 64 }, Counter { size: 64 }).count(),
+        4096,
+    )?;
+    check_eq(
+        Joint::new(Counter { size: 65 }, Counter { size: 64 }).count(),
+        0,
+    )?;
+    check_eq(listed_count(&[BLANK; 4096]), 4096)?;
+    check_eq(listed_count(&[BLANK; 4097]), 0)
 }
 
 // A row that repeats an earlier one, or names a state or an action outside, is no move.
 #[test]
 fn rows() -> Result<(), Fail> {
     let rows = [
-        Row { from: 0, action: 1, to: 1 },
-        Row { from: 0, action: 0, to: 1 },
-        Row { from: 0, action: 1, to: 1 },
-        Row { from: 0, action: 2, to: 1 },
-        Row { from: 0, action: 0, to: 2 },
-        Row { from: 1, action: 0, to: 1 },
-        Row { from: 2, action: 0, to: 1 },
+        Row {
+            from: 0,
+            action: 1,
+            to: 1,
+        },
+        Row {
+            from: 0,
+            action: 0,
+            to: 1,
+        },
+        Row {
+            from: 0,
+            action: 1,
+            to: 1,
+        },
+        Row {
+            from: 0,
+            action: 2,
+            to: 1,
+        },
+        Row {
+            from: 0,
+            action: 0,
+            to: 2,
+        },
+        Row {
+            from: 1,
+            action: 0,
+            to: 1,
+        },
+        Row {
+            from: 2,
+            action: 0,
+            to: 1,
+        },
     ];
     let s = Listed::new(&rows, &[BLANK, BLANK], 3);
     goes(s, 0, &[(1, 1), (0, 1)])?;
@@ -122,9 +172,34 @@ fn rows() -> Result<(), Fail> {
 // Action 0 is the recorder's own, 1 hands a recording over, 2 is the server's own.
 #[test]
 fn recorder_and_server() -> Result<(), Fail> {
-    let recorder = [Row { from: 0, action: 0, to: 1 }, Row { from: 1, action: 1, to: 0 }];
-    let server = [Row { from: 0, action: 1, to: 1 }, Row { from: 1, action: 2, to: 0 }];
-    let both = Joint::new(Listed::new(&recorder, &[BLANK, BLANK], 3), Listed::new(&server, &[BLANK, BLANK], 6));
+    let recorder = [
+        Row {
+            from: 0,
+            action: 0,
+            to: 1,
+        },
+        Row {
+            from: 1,
+            action: 1,
+            to: 0,
+        },
+    ];
+    let server = [
+        Row {
+            from: 0,
+            action: 1,
+            to: 1,
+        },
+        Row {
+            from: 1,
+            action: 2,
+            to: 0,
+        },
+    ];
+    let both = Joint::new(
+        Listed::new(&recorder, &[BLANK, BLANK], 3),
+        Listed::new(&server, &[BLANK, BLANK], 6),
+    );
     check_eq(both.actions(), 7)?;
     goes(both, 0, &[(0, 2)])?;
     goes(both, 1, &[(0, 3), (2, 0)])?;

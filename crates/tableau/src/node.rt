@@ -9,14 +9,16 @@ use crate::claims::ClaimSet;
 pub const MOST_NODES: usize = 4096;
 pub const MOST_EDGES: usize = 65536;
 
-// A node: the action of its step, the phase, whether it is closing, and its claims. Once it is opened, its edges stand
-// one after another from `first_edge` on.
+// A node: the action of its step, the phase, whether it is closing, and its claims. Of these hang `shows` and `hides`, the
+// propositions that it claims true and false. Once it is opened, its edges stand one after another from `first_edge` on.
 #[derive(Clone, Copy)]
 pub struct Node {
     pub action: u8,
     pub phase: u8,
     pub closing: bool,
     pub claims: ClaimSet,
+    pub shows: u16,
+    pub hides: u16,
     pub first_edge: u32,
     pub edge_count: u32,
 }
@@ -29,6 +31,8 @@ impl Node {
             phase: 0,
             closing: false,
             claims: ClaimSet::empty(),
+            shows: 0,
+            hides: 0,
             first_edge: 0,
             edge_count: 0,
         }

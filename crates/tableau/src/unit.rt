@@ -50,6 +50,20 @@ fn allowed_actions(declared: &Declared, set: ClaimSet) -> u16 {
     allowed
 }
 
+// The propositions that the set claims true, or those that it claims false.
+fn claimed_props(declared: &Declared, set: ClaimSet, sign: bool) -> u16 {
+    let mut props = 0;
+    for e in 0..declared.forms().count() {
+        if let Form::Prop(p) = declared.form(e) {
+            let claim = if sign { Claim::True(e as u8) } else { Claim::False(e as u8) };
+            if set.contains(number(declared, claim)) {
+                props |= 1 << p;
+            }
+        }
+    }
+    props
+}
+
 // Whether the set has a T until of the form with this label.
 fn promises_in(declared: &Declared, set: ClaimSet, e: u8, label: u8) -> bool {
     for q in 0..states_of(declared, e) {
@@ -146,6 +160,8 @@ pub fn enter_set(opening: Opening, set: ClaimSet, nodes: &mut [Node], edges: &mu
     let declared = opening.rules.declared;
     let allowed = allowed_actions(declared, set);
     let closing = opening.closes(set);
+    let shows = claimed_props(declared, set, true);
+    let hides = claimed_props(declared, set, false);
     let mut count = used;
     for a in 0..declared.acts().count() {
         if (allowed >> a) & 1 == 1 {
@@ -154,6 +170,8 @@ pub fn enter_set(opening: Opening, set: ClaimSet, nodes: &mut [Node], edges: &mu
                 phase: opening.rules.phase,
                 closing,
                 claims: set,
+                shows,
+                hides,
                 first_edge: 0,
                 edge_count: 0,
             };
