@@ -5,7 +5,7 @@ use Prim.Native.Nat.{ℕ, _*_, _<_}
 use lib.Dec.{ltb}
 use lib.ListN.{getD}
 use Rattle.program.specs.declared.row.Row.{Row}
-use Rattle.program.specs.Rows.{statesOf}
+use Rattle.program.specs.RowStates.{statesOf}
 use Rattle.document.specs.declared.form.Form.{Form}
 use Rattle.document.specs.declared.form.Form.the-variants.{True, Prop, Not, And, Or, Next, Until}
 

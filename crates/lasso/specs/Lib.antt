@@ -1,1 +1,3 @@
+pub mod LassoTexts
 pub mod Lassos
+pub mod Readings

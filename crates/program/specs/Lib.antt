@@ -1,3 +1,13 @@
+pub mod Automata
+pub mod Faults
+pub mod Laws
 pub mod Masks
 pub mod Names
+pub mod Programs
+pub mod Reading
+pub mod RowStates
 pub mod Rows
+pub mod Steps
+pub mod Tables
+pub mod Text
+pub mod Words

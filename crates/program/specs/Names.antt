@@ -26,6 +26,14 @@ pub record Named (bs : List ℕ) : Type 0 where
 abbrev pub spelled : Name → List ℕ
 spelled n = take (n .len) (n .bytes)
 
+-- the bytes of the k-th name
+abbrev pub name-at : List Name → ℕ → List ℕ
+name-at names k = spelled (getD names k (record { bytes = []; len = 0 }))
+
 -- none of the first n names is spelled so
 abbrev pub Absent : List Name → ℕ → List ℕ → Type 0
-Absent names n bs = (k : ℕ) → k < n → spelled (getD names k (record { bytes = []; len = 0 })) ≡ bs → ⊥
+Absent names n bs = (k : ℕ) → k < n → name-at names k ≡ bs → ⊥
+
+-- i is the first name that is spelled so
+abbrev pub Number : List Name → List ℕ → ℕ → Type 0
+Number names bs i = (i < length names) × (name-at names i ≡ bs) × Absent names i bs

@@ -1,9 +1,16 @@
 // The automaton of a program: states 0 to its number of names, at most 16, and a mask of target states for each state and action.
 ghost use mathlib.Core.Path.{_≡_};
-ghost use Prim.Native.Nat.{ℕ, _+_, _-_, _^_, _<_, _≤_};
+ghost use Prim.Native.Nat.{ℕ, _+_, _-_, _/_, _%_, _^_, _<_, _≤_};
 ghost use lib.Bits.{bitAnd};
+ghost use lib.Dec.{eqb, ltb};
+ghost use mathlib.Core.Bool.{_&&_};
 ghost use lib.ListN.{getD};
-ghost use Rattle.program.specs.Masks.{cell};
+ghost use mathlib.Core.Logic.{_↔_};
+ghost use Rattle.program.specs.Laws.{Accepts-its-words, Accepts-by-parts, Nullable-is-empty};
+ghost use Rattle.program.specs.Masks.{Bit, cell};
+ghost use Rattle.program.specs.Rows.{Row-of};
+ghost use Rattle.program.specs.Tables.{Automaton-of, Accepts-words-of};
+ghost use Rattle.program.specs.Words.{Program};
 use crate::row::Row;
 
 #[derive(Clone, Copy)]
@@ -25,7 +32,9 @@ fn all_of(states: usize) -> u16
 }
 
 // The names of each action.
-fn named(row: &Row) -> [u16; 16] {
+fn named(row: &Row) -> [u16; 16]
+    ensures { λ r. ⌜ ((a n : ℕ) → a < 16 → n < 16 → Bit (getD r a 0) n ↔ ((1 ≤ n) × (getD (now (row .entry) .actions) n 0 ≡ a))) ⌝ }
+{
     let mut named = [0; 16];
     for i in 1..16 {
         let action = row.actions[i] as usize;
@@ -48,7 +57,12 @@ fn targets_by(follow: u16, named: &[u16; 16], all: u16) -> [u16; 16]
 }
 
 impl Automaton {
-    pub fn new(row: &Row) -> Automaton {
+    // The automaton of the program that the row is of.
+    pub fn new(row: &Row) -> Automaton
+        ensures made { λ r. ⌜ ((p : Program) → Row-of p (now (row .entry)) → Automaton-of p (r .states) (r .next) (r .finals)) ⌝ }
+        ensures words { λ r. ⌜ ((p : Program) → Row-of p (now (row .entry)) → Accepts-words-of p (r .next) (r .finals)) ⌝ }
+        ensures laws { λ r. ⌜ Accepts-its-words ⌝ ∗ ⌜ Accepts-by-parts ⌝ ∗ ⌜ Nullable-is-empty ⌝ }
+    {
         let states = row.states();
         let all = all_of(states);
         let named = named(row);
@@ -74,6 +88,8 @@ impl Automaton {
 
     // The states that an action leads to.
     pub fn targets(&self, state: usize, action: usize) -> u16
+        ensures is { λ r. ⌜ (state < 16 → action < 16 → r ≡ cell (now (self .entry) .next) state action) ⌝ }
+        ensures none { λ r. ⌜ (16 ≤ state → r ≡ 0) ⌝ ∗ ⌜ (16 ≤ action → r ≡ 0) ⌝ }
         ensures within { λ r. ⌜ r < 2 ^ now (self .entry) .states ⌝ }
     {
         if state < 16 && action < 16 { self.next[state][action] } else { 0 }
@@ -87,7 +103,10 @@ impl Automaton {
         self.finals
     }
 
-    pub fn is_final(&self, state: usize) -> bool {
-        state < 16 && (self.finals >> state) & 1 == 1
+    // Whether a state is final.
+    pub fn is_final(&self, state: usize) -> bool
+        ensures { λ r. ⌜ r ≡ (ltb state 16 && eqb (now (self .entry) .finals / 2 ^ state % 2) 1) ⌝ }
+    {
+        state < 16 && (self.finals >> state) % 2 == 1
     }
 }

@@ -1,7 +1,13 @@
 // The checker of prefixes: it reads a text byte by byte and stops where no program can go on so.
 ghost use mathlib.Core.Path.{_≡_};
 ghost use Prim.Native.Nat.{ℕ, _+_, _<_, _≤_};
+ghost use lib.Dec.{eqb};
 ghost use lib.ListN.{length, getD};
+ghost use mathlib.Core.Bool.{Bool, true, false, not, cond, _&&_};
+ghost use Rattle.std.specs.Results.{Cases};
+ghost use Rattle.program.specs.Faults.{Malformed-by};
+ghost use Rattle.program.specs.Steps.{stand, operated, starred, opened, shut, lengthened, lettered, stepped};
+ghost use Rattle.program.specs.Text.{Well-formed};
 use crate::fault::ProgramFault;
 
 // Where the reader stands: whether a factor is due, how many parentheses are open, and how long the name is that is being read (0 outside a name).
@@ -14,7 +20,9 @@ pub struct Prefix {
 
 impl Prefix {
     // Before the first byte.
-    pub fn start() -> Prefix {
+    pub fn start() -> Prefix
+        ensures { λ r. ⌜ r ≡ stand true 0 0 ⌝ }
+    {
         Prefix {
             due: true,
             depth: 0,
@@ -23,12 +31,16 @@ impl Prefix {
     }
 
     // Whether the bytes read are a whole program.
-    pub fn is_whole(self) -> bool {
+    pub fn is_whole(self) -> bool
+        ensures { λ r. ⌜ r ≡ (not (self .due) && eqb (self .depth) 0) ⌝ }
+    {
         !self.due && self.depth == 0
     }
 
     // After one more character, or none where no program goes on so.
-    pub fn step(self, c: char) -> Option<Prefix> {
+    pub fn step(self, c: char) -> Option<Prefix>
+        ensures { λ r. ⌜ r ≡ stepped self c ⌝ }
+    {
         match c {
             '+' | ';' => self.operator(),
             '*' => self.star(),
@@ -40,7 +52,9 @@ impl Prefix {
         }
     }
 
-    fn operator(self) -> Option<Prefix> {
+    fn operator(self) -> Option<Prefix>
+        ensures { λ r. ⌜ r ≡ operated self ⌝ }
+    {
         if self.due {
             return None;
         }
@@ -51,7 +65,9 @@ impl Prefix {
         })
     }
 
-    fn star(self) -> Option<Prefix> {
+    fn star(self) -> Option<Prefix>
+        ensures { λ r. ⌜ r ≡ starred self ⌝ }
+    {
         if self.due {
             return None;
         }
@@ -62,7 +78,9 @@ impl Prefix {
         })
     }
 
-    fn open(self) -> Option<Prefix> {
+    fn open(self) -> Option<Prefix>
+        ensures { λ r. ⌜ r ≡ opened self ⌝ }
+    {
         if !self.due || self.depth >= 8 {
             return None;
         }
@@ -73,7 +91,9 @@ impl Prefix {
         })
     }
 
-    fn close(self) -> Option<Prefix> {
+    fn close(self) -> Option<Prefix>
+        ensures { λ r. ⌜ r ≡ shut self ⌝ }
+    {
         if self.due || self.depth == 0 {
             return None;
         }
@@ -85,7 +105,9 @@ impl Prefix {
     }
 
     // A letter begins a name where a factor is due, and goes on with one elsewhere.
-    fn letter(self) -> Option<Prefix> {
+    fn letter(self) -> Option<Prefix>
+        ensures { λ r. ⌜ r ≡ lettered self ⌝ }
+    {
         if self.due {
             return Some(Prefix {
                 due: false,
@@ -96,7 +118,9 @@ impl Prefix {
         self.naming()
     }
 
-    fn naming(self) -> Option<Prefix> {
+    fn naming(self) -> Option<Prefix>
+        ensures { λ r. ⌜ r ≡ lengthened self ⌝ }
+    {
         if self.due || self.name == 0 || self.name >= 16 {
             return None;
         }
@@ -110,7 +134,9 @@ impl Prefix {
 
 // Whether the text is a well-formed program; else the least column such that no well-formed program begins with the
 // bytes up to it, or the length plus 1.
-pub fn check(text: &[u8]) -> Result<(), ProgramFault> {
+pub fn check(text: &[u8]) -> Result<(), ProgramFault>
+    ensures { λ r. ⌜ Cases r (λ _. Well-formed (now (text .entry))) (λ f. Malformed-by (now (text .entry)) f) ⌝ }
+{
     let mut at = 0;
     let mut prefix = Prefix::start();
     let column = 'read: loop {

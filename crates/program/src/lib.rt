@@ -5,3 +5,5 @@ pub mod fault;
 pub mod name;
 pub mod read;
 pub mod row;
+#[cfg(test)]
+mod tests;

@@ -3,8 +3,8 @@ ghost use mathlib.Core.Path.{_≡_};
 ghost use Prim.Native.Nat.{ℕ, _+_, _<_, _≤_};
 ghost use lib.ListN.{length, getD, take};
 ghost use Rattle.std.specs.Options.{Cases};
-ghost use lib.Dec.{T};
-ghost use Rattle.program.specs.Names.{letter, naming};
+ghost use Rattle.std.specs.Orderings.{Decides};
+ghost use Rattle.program.specs.Names.{letter, naming, Named, spelled, Absent, Number};
 
 #[derive(Clone, Copy)]
 pub struct Name {
@@ -26,7 +26,7 @@ pub fn is_naming(b: u8) -> bool
 
 // Whether the field is a well-formed name.
 pub fn is_name(field: &[u8]) -> bool
-    ensures { λ r. ⌜ (T r → length (now (field .entry)) ≤ 16) ⌝ }
+    ensures { λ r. ⌜ Decides r (Named (now (field .entry))) ⌝ }
 {
     if field.len() == 0 || field.len() > 16 {
         return false;
@@ -55,6 +55,7 @@ impl Name {
 
     // The name that the field spells, if it is well formed.
     pub fn read(field: &[u8]) -> Option<Name>
+        ensures { λ r. ⌜ Cases r (Named (now (field .entry)) → ⊥) (λ n. Named (now (field .entry)) × (spelled n ≡ now (field .entry))) ⌝ }
     {
         if !is_name(field) {
             return None;
@@ -70,19 +71,22 @@ impl Name {
     }
 
     pub fn len(&self) -> usize
-        ensures { λ r. ⌜ r ≤ 16 ⌝ }
+        ensures is { λ r. ⌜ r ≡ length (spelled (now (self .entry))) ⌝ }
+        ensures few { λ r. ⌜ r ≤ 16 ⌝ }
     {
         if self.len < 16 { self.len } else { 16 }
     }
 
     // The byte at a place below the length.
     pub fn byte(&self, k: usize) -> u8
+        ensures { λ r. ⌜ r ≡ getD (spelled (now (self .entry))) k 0 ⌝ }
     {
         if k < self.len() { self.bytes[k] } else { 0 }
     }
 
     // Whether the field spells this name.
     pub fn is(&self, field: &[u8]) -> bool
+        ensures { λ r. ⌜ Decides r (spelled (now (self .entry)) ≡ now (field .entry)) ⌝ }
     {
         if field.len() != self.len() {
             return false;
@@ -98,7 +102,7 @@ impl Name {
 
 // The number of the name that the field spells.
 pub fn find(names: &[Name], field: &[u8]) -> Option<usize>
-    ensures { λ r. ⌜ Cases r (Unit {0}) (λ i. i < length (now (names .entry))) ⌝ }
+    ensures { λ r. ⌜ Cases r (Absent (now (names .entry)) (length (now (names .entry))) (now (field .entry))) (λ i. Number (now (names .entry)) (now (field .entry)) i) ⌝ }
 {
     for i in 0..names.len() {
         if names[i].is(field) {

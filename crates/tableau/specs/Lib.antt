@@ -1,4 +1,5 @@
 pub mod Claims
+pub mod Graphs
 pub mod Growing
 pub mod Offers
 pub mod Tables

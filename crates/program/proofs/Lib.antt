@@ -1,0 +1,12 @@
+pub mod Bits
+pub mod Columns
+pub mod Drafts
+pub mod Glushkov
+pub mod Goes
+pub mod Machine
+pub mod Parts
+pub mod Places
+pub mod Prefixes
+pub mod Readers
+pub mod States
+pub mod Whole
