@@ -4,4 +4,5 @@ pub mod Forms
 pub mod Formulas
 pub mod Lines
 pub mod Outcomes
+pub mod Represents
 pub mod Texts

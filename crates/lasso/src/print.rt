@@ -111,6 +111,7 @@ fn write(document: &Document, steps: &[Step], stem: usize, text: &mut [u8]) -> u
 // Writes the lasso's text into the first bytes, and answers its length; where it does not fit, nothing is written.
 pub fn print(document: &Document, steps: &[Step], stem: usize, text: &mut [u8]) -> Option<usize>
     requires { ⌜ length (now steps) ≤ 131072 ⌝ }
+    ensures untouched { λ r. ⌜ Cases r (now (text .exit) ≡ now (text .entry)) (λ _. Unit {0}) ⌝ }
 {
     let needed = write(document, steps, stem, &mut []);
     if needed > text.len() {

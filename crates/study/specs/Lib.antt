@@ -4,4 +4,6 @@ pub mod PairsLawful
 pub mod Promise
 pub mod Readers
 pub mod Refusals
+pub mod Served
 pub mod Sessions
+pub mod Verdicts

@@ -1,0 +1,2 @@
+stem	arm	0	recording
+loop	chunk	0	recording
