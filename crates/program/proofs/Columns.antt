@@ -1,8 +1,8 @@
 -- Where the checker stops is the column of the fault.
 use mathlib.Core.Path.{_≡_, refl, sym, ap, _∙_, subst}
-use mathlib.Core.Bool.{Bool, true, false, not, _&&_}
+use mathlib.Core.Bool.{true, false, not, _&&_}
 use mathlib.Core.List.{List, [], _∷_, _++_}
-use Prim.Native.Nat.{ℕ, zero, suc, _+_, _<_, _≤_}
+use Prim.Native.Nat.{ℕ, _+_, _<_, _≤_}
 use native.Mathlib.Omega.{arith}
 use lib.Dec.{eqb}
 use lib.ListN.{length, getD, take, drop}
@@ -38,29 +38,30 @@ ends-whole text at s h g w =
     let b = eqb-true (s .depth) 0 (p .1) in
     whole text (s .name) (subst (λ v. Known text false v (s .name)) b (subst (λ v. Known text v (s .depth) (s .name)) a k))
 
-pub ends-early : (text : List ℕ) (at : ℕ) (s : Prefix) → at ≤ length text → length text ≤ at → Goes start (take at text) s → (not (s .due) && eqb (s .depth) 0) ≡ false → Fault-at text (at + 1)
+pub ends-early : (text : List ℕ) (at : ℕ) (s : Prefix) → at ≤ length text → length text ≤ at → Goes start (take at text) s →
+    (not (s .due) && eqb (s .depth) 0) ≡ false → Fault-at text (at + 1)
 ends-early text at s l h g w =
     record {
       within = omega arith;
       before = λ k less. begun-shorter text at k (omega arith) (goes-begun (take at text) s g);
       here = λ past b. omega arith;
       unwell = λ wf.
-        let e = at-end text s (subst (λ v. Goes start v s) (take-all at text h) g) wf in
-        let a = e .0 in
-        let b = e .1 in
-        let t : (not (s .due) && eqb (s .depth) 0) ≡ true = rw (a, b) refl in
-        let z : _≡_ {A = ℕ} 0 1 = cc in
-        omega arith
+          let e = at-end text s (subst (λ v. Goes start v s) (take-all at text h) g) wf in
+          let a = e .0 in
+          let b = e .1 in
+          let t : (not (s .due) && eqb (s .depth) 0) ≡ true = rw (a, b) refl in
+          let z : _≡_ {A = ℕ} 0 1 = cc in
+          omega arith;
     }
 
 pub ends-refused : (text : List ℕ) (at : ℕ) (s : Prefix) → at < length text → Goes start (take at text) s → stepped s (getD text at 0) ≡ None → Fault-at text (at + 1)
 ends-refused text at s h g e =
     let no : Begun (take (at + 1) text) → ⊥ =
-        λ b. refused (take at text) (b .0) (getD text at 0) s g e
-            (subst Well-formed (ap (λ v. v ++ b .0) (take-more text at 0 h) ∙ append-assoc (take at text) (getD text at 0 ∷ []) (b .0)) (b .1)) in
+    λ b. refused (take at text) (b .0) (getD text at 0) s g e
+    (subst Well-formed (ap (λ v. v ++ b .0) (take-more text at 0 h) ∙ append-assoc (take at text) (getD text at 0 ∷ []) (b .0)) (b .1)) in
     record {
       within = omega arith;
       before = λ k less. begun-shorter text at k (omega arith) (goes-begun (take at text) s g);
       here = λ _. no;
-      unwell = λ wf. no (drop (at + 1) text, subst Well-formed (sym (take-append-drop (at + 1) text)) wf)
+      unwell = λ wf. no (drop (at + 1) text, subst Well-formed (sym (take-append-drop (at + 1) text)) wf);
     }

@@ -116,30 +116,31 @@ module _ (p r : Program) (i : ℕ) (L : ℕ → ℕ) where
   either-left : (w : List ℕ) (m : ℕ) → In p i m → Runs (either p r) i L m w → Runs p i L m w
   either-left = run-map L (In p i)
       (λ m n a. ⊎-elim (λ s. (follow-in p i m n s .1, s))
-          (λ s. absurd (apart p r i m a (follow-in r (after p i) m n s .0))))
+      (λ s. absurd (apart p r i m a (follow-in r (after p i) m n s .0))))
       (λ m a. ⊎-elim (λ e. e) (λ e. absurd (apart p r i m a (last-in r (after p i) m e))))
 
   either-right : (w : List ℕ) (m : ℕ) → In r (after p i) m → Runs (either p r) i L m w → Runs r (after p i) L m w
   either-right = run-map L (In r (after p i))
       (λ m n a. ⊎-elim (λ s. absurd (apart p r i m (follow-in p i m n s .0) a))
-          (λ s. (follow-in r (after p i) m n s .1, s)))
+      (λ s. (follow-in r (after p i) m n s .1, s)))
       (λ m a. ⊎-elim (λ e. absurd (apart p r i m (last-in p i m e) a)) (λ e. e))
 
   pub reads-either : (w : List ℕ) → Reads (either p r) i L w ↔ (Reads p i L w ⊎ Reads r (after p i) L w)
   reads-either [] = or-true (nullable p) (nullable r)
-  reads-either (c ∷ w) =
-      (λ t. ⊎-elim
-          (λ f. inl (t .0, f, t .2, either-left w (t .0) (first-in p i (t .0) f) (t .3)))
-          (λ f. inr (t .0, f, t .2, either-right w (t .0) (first-in r (after p i) (t .0) f) (t .3)))
-          (t .1),
-       ⊎-elim
-          (λ t. (t .0, inl (t .1), t .2, run-into L (λ m n. inl) (λ m. inl) w (t .0) (t .3)))
-          (λ t. (t .0, inr (t .1), t .2, run-into L (λ m n. inr) (λ m. inr) w (t .0) (t .3))))
+  reads-either (c ∷ w) = (
+    λ t. ⊎-elim
+        (λ f. inl (t .0, f, t .2, either-left w (t .0) (first-in p i (t .0) f) (t .3)))
+        (λ f. inr (t .0, f, t .2, either-right w (t .0) (first-in r (after p i) (t .0) f) (t .3)))
+        (t .1),
+    ⊎-elim
+        (λ t. (t .0, inl (t .1), t .2, run-into L (λ m n. inl) (λ m. inl) w (t .0) (t .3)))
+        (λ t. (t .0, inr (t .1), t .2, run-into L (λ m n. inr) (λ m. inr) w (t .0) (t .3))),
+  )
 
   seq-right : (w : List ℕ) (m : ℕ) → In r (after p i) m → Runs (seq p r) i L m w → Runs r (after p i) L m w
   seq-right = run-map L (In r (after p i))
       (λ m n a. ⊎-elim (λ s. absurd (apart p r i m (follow-in p i m n s .0) a))
-          (⊎-elim (λ s. (follow-in r (after p i) m n s .1, s)) (λ s. absurd (apart p r i m (last-in p i m (s .0)) a))))
+      (⊎-elim (λ s. (follow-in r (after p i) m n s .1, s)) (λ s. absurd (apart p r i m (last-in p i m (s .0)) a))))
       (λ m a. ⊎-elim (λ e. e) (λ e. absurd (apart p r i m (last-in p i m (e .1)) a)))
 
   right-reads : (c : ℕ) (w : List ℕ) (n : ℕ) → First r (after p i) n → L n ≡ c → Runs (seq p r) i L n w
@@ -155,7 +156,7 @@ module _ (p r : Program) (i : ℕ) (L : ℕ → ℕ) where
   crosses (c ∷ w) m a t = ⊎-elim
       (λ s. split-cons c (λ u x. (t .0, s, t .2, x)) w (crosses w (t .0) (follow-in p i m (t .0) s .1) (t .3)))
       (⊎-elim (λ s. absurd (apart p r i m a (follow-in r (after p i) m (t .0) s .0)))
-          (λ s. ([], c ∷ w, s .0, right-reads c w (t .0) (s .1) (t .2) (t .3), refl)))
+      (λ s. ([], c ∷ w, s .0, right-reads c w (t .0) (s .1) (t .2) (t .3), refl)))
       (t .1)
 
   crossed : (v : List ℕ) → Reads r (after p i) L v → (m : ℕ) → Last p i m → Runs (seq p r) i L m v
@@ -194,8 +195,8 @@ module _ (p : Program) (i : ℕ) (L : ℕ → ℕ) where
   turns (c ∷ w) m t =
       let x = turns w (t .0) (t .3) in
       ⊎-elim (λ s. split-cons c (λ u y. (t .0, s, t .2, y)) w x)
-          (λ s. ([], c ∷ w, s .0, round c w (t .0) (s .1) (t .2) x, refl))
-          (t .1)
+      (λ s. ([], c ∷ w, s .0, round c w (t .0) (s .1) (t .2) x, refl))
+      (t .1)
 
   turned : (v : List ℕ) → Reads (star p) i L v → (m : ℕ) → Last p i m → Runs (star p) i L m v
   turned [] h m e = e
@@ -211,6 +212,7 @@ module _ (p : Program) (i : ℕ) (L : ℕ → ℕ) where
       parts : (w : List ℕ) → Reads (star p) i L w → Rounds w
       parts [] h = (0, refl)
       parts (c ∷ w) t = round c w (t .0) (t .1) (t .2) (turns w (t .0) (t .3))
+
       whole : (k : ℕ) (w : List ℕ) → Power (Reads p i L) k w → Reads (star p) i L w
       whole zero w e = rw e refl
       whole (suc k) w x = rw (x .4) (again (x .0) (x .1) (x .2) (whole k (x .1) (x .3)))
@@ -236,9 +238,10 @@ letters-right p r i L h k b =
 
 reads-act : (a i : ℕ) (L : ℕ → ℕ) → L i ≡ a → (w : List ℕ) → Reads (act a) i L w ↔ (w ≡ a ∷ [])
 reads-act a i L l [] = (λ h. cc, λ h. cc)
-reads-act a i L l (c ∷ []) =
-    (λ t. let e = ap L (t .1) in ap (λ x. x ∷ []) (sym (t .2) ∙ e ∙ l),
-     λ h. (i, refl, (let e : L i ≡ c = cc in e), refl))
+reads-act a i L l (c ∷ []) = (
+  λ t. let e = ap L (t .1) in ap (λ x. x ∷ []) (sym (t .2) ∙ e ∙ l),
+  λ h. (i, refl, (let e : L i ≡ c = cc in e), refl),
+)
 reads-act a i L l (c ∷ d ∷ w) = (λ t. absurd (t .3 .1), λ h. absurd (let z : _≡_ {A = ℕ} 0 1 = cc in omega arith))
 
 pub reads-words : (p : Program) (i : ℕ) (L : ℕ → ℕ) → Letters p i L → (w : List ℕ) → Reads p i L w ↔ Words p w
@@ -255,9 +258,10 @@ reads-words (seq p r) i L l w =
     (λ h. split-map (λ u. a u .0) (λ v. b v .0) w (e .0 h), λ h. e .1 (split-map (λ u. a u .1) (λ v. b v .1) w h))
 reads-words (star p) i L l w =
     let a = reads-words p i L l in
-    let e = reads-star p i L w in
-    (λ h. let x = e .0 h in (x .0, power-map (λ u. a u .0) (x .0) w (x .1)),
-     λ x. e .1 (x .0, power-map (λ u. a u .1) (x .0) w (x .1)))
+    let e = reads-star p i L w in (
+      λ h. let x = e .0 h in (x .0, power-map (λ u. a u .0) (x .0) w (x .1)),
+      λ x. e .1 (x .0, power-map (λ u. a u .1) (x .0) w (x .1)),
+    )
 
 -- the letter of each state but the first
 abbrev pub letter : Program → ℕ → ℕ
@@ -270,15 +274,17 @@ accepts-runs : (p : Program) (w : List ℕ) (q : ℕ) → 1 ≤ q → Accepts p 
 accepts-runs p [] zero h = absurd (omega arith)
 accepts-runs p [] (suc q) h = (λ e. e, λ e. e)
 accepts-runs p (c ∷ w) zero h = absurd (omega arith)
-accepts-runs p (c ∷ w) (suc q) h =
-    (λ t. (t .0, t .1 .0, t .1 .1, accepts-runs p w (t .0) (follow-in p 1 (suc q) (t .0) (t .1 .0) .1 .0) .0 (t .2)),
-     λ t. (t .0, (t .1, t .2), accepts-runs p w (t .0) (follow-in p 1 (suc q) (t .0) (t .1) .1 .0) .1 (t .3)))
+accepts-runs p (c ∷ w) (suc q) h = (
+  λ t. (t .0, t .1 .0, t .1 .1, accepts-runs p w (t .0) (follow-in p 1 (suc q) (t .0) (t .1 .0) .1 .0) .0 (t .2)),
+  λ t. (t .0, (t .1, t .2), accepts-runs p w (t .0) (follow-in p 1 (suc q) (t .0) (t .1) .1 .0) .1 (t .3)),
+)
 
 accepts-reads : (p : Program) (w : List ℕ) → Accepts p 0 w ↔ Reads p 1 (letter p) w
 accepts-reads p [] = (λ e. e, λ e. e)
-accepts-reads p (c ∷ w) =
-    (λ t. (t .0, t .1 .0, t .1 .1, accepts-runs p w (t .0) (first-in p 1 (t .0) (t .1 .0) .0) .0 (t .2)),
-     λ t. (t .0, (t .1, t .2), accepts-runs p w (t .0) (first-in p 1 (t .0) (t .1) .0) .1 (t .3)))
+accepts-reads p (c ∷ w) = (
+  λ t. (t .0, t .1 .0, t .1 .1, accepts-runs p w (t .0) (first-in p 1 (t .0) (t .1 .0) .0) .0 (t .2)),
+  λ t. (t .0, (t .1, t .2), accepts-runs p w (t .0) (first-in p 1 (t .0) (t .1) .0) .1 (t .3)),
+)
 
 pub accepts-its-words : Accepts-its-words
 accepts-its-words p w =

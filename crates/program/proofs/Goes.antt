@@ -2,17 +2,16 @@
 use mathlib.Core.Path.{_≡_, refl, sym, ap, _∙_, subst}
 use mathlib.Core.Bool.{true, false, cond}
 use mathlib.Core.List.{List, [], _∷_, _++_}
-use Prim.Native.Nat.{ℕ, zero, suc, _+_, _-_, _<_, _≤_}
+use Prim.Native.Nat.{ℕ, suc, _+_, _-_, _<_, _≤_}
 use native.Mathlib.Numerals.{add-one}
 use native.Mathlib.Omega.{arith}
 use lib.Dec.{eqb, leb}
 use lib.ListN.{length, getD}
-use Rattle.std.specs.declared.option.Option.{Option}
 use Rattle.std.specs.declared.option.Option.the-variants.{Some, None}
-use Rattle.std.proofs.shelf.Tests.{lt-leb, ne-eqb, cases-bool}
+use Rattle.std.proofs.shelf.Tests.{lt-leb, ne-eqb}
 use Rattle.std.proofs.shelf.Ways.{tells}
 use Rattle.program.specs.Names.{letter, naming, Named}
-use Rattle.program.specs.Steps.{stand, stepped, opened, shut, lengthened, lettered}
+use Rattle.program.specs.Steps.{stand, stepped, lengthened, lettered}
 use Rattle.program.specs.Text.{Tree, Kind, Spells, named, group, star, lone, semi, single, plus, Well-formed}
 use Rattle.program.specs.declared.check.Prefix.{Prefix}
 

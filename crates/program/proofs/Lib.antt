@@ -1,6 +1,8 @@
 pub mod Bits
 pub mod Columns
 pub mod Drafts
+pub mod Ends
+pub mod Factors
 pub mod Glushkov
 pub mod Goes
 pub mod Machine
@@ -9,4 +11,5 @@ pub mod Places
 pub mod Prefixes
 pub mod Readers
 pub mod States
+pub mod Unique
 pub mod Whole

@@ -12,7 +12,7 @@ use Rattle.std.proofs.shelf.Bits.{pow-below}
 use Rattle.std.proofs.shelf.Lists.{getD-past}
 use Rattle.std.proofs.shelf.Tests.{cases-lt, both-ways}
 use Rattle.program.specs.Words.{Program}
-use Rattle.program.specs.Automata.{names, nullable, First, Last, Follow, Leads, Final, Accepts}
+use Rattle.program.specs.Automata.{names, nullable, First, Follow, Leads, Final, Accepts}
 use Rattle.program.specs.Masks.{Bit, Marks, cell}
 use Rattle.program.specs.Rows.{Row-of}
 use Rattle.program.specs.Tables.{Automaton-of, Accepted, Accepts-words-of}
@@ -45,18 +45,17 @@ module _ (p : Program) (row : Row) (is : Row-of p row) (states : ℕ) (st : stat
     marked P in-p m c n marks h =
         let few = is .few in
         let low = bit-below (bitAnd m (getD named c 0)) states n in
-        let both = bit-and m (getD named c 0) n in
-        (
+        let both = bit-and m (getD named c 0) n in (
           λ b.
-            let x = low .0 b in
-            let y = both .0 (x .0) in
-            let lt : n < 16 = omega (arith, x .1) in
-            let z = by c n h lt .0 (y .1) in
-            (marks n lt .0 (y .0), sym (letter-at n (z .0) (omega (arith, x .1))) ∙ z .1),
+              let x = low .0 b in
+              let y = both .0 (x .0) in
+              let lt : n < 16 = omega (arith, x .1) in
+              let z = by c n h lt .0 (y .1) in
+              (marks n lt .0 (y .0), sym (letter-at n (z .0) (omega (arith, x .1))) ∙ z .1),
           λ t.
-            let b = in-p n (t .0) in
-            let lt : n < 16 = omega arith in
-            low .1 (both .1 (marks n lt .1 (t .0), by c n h lt .1 (b .0, letter-at n (b .0) (omega arith) ∙ t .1)), omega arith),
+              let b = in-p n (t .0) in
+              let lt : n < 16 = omega arith in
+              low .1 (both .1 (marks n lt .1 (t .0), by c n h lt .1 (b .0, letter-at n (b .0) (omega arith) ∙ t .1)), omega arith),
         )
 
     leads-at : (q c n : ℕ) → q < 16 → c < 16 → Bit (cell next q c) n ↔ Leads p q c n
@@ -68,8 +67,8 @@ module _ (p : Program) (row : Row) (is : Row-of p row) (states : ℕ) (st : stat
     leads-all q c n k =
         ⊎-elim (λ h. leads-at q c n h k)
         (λ g.
-          let e = ap (λ l. getD l c 0) (getD-past next q [] (omega arith)) in
-          (λ b. absurd (bit-none n (subst (λ m. Bit m n) e b)), λ t. absurd (let f = leads-from p q c n t in omega (arith, is .few))))
+        let e = ap (λ l. getD l c 0) (getD-past next q [] (omega arith)) in
+        (λ b. absurd (bit-none n (subst (λ m. Bit m n) e b)), λ t. absurd (let f = leads-from p q c n t in omega (arith, is .few))))
         (cases-lt q 16)
 
   -- the final states: the last names, and state 0 where the program is nullable
@@ -83,11 +82,13 @@ module _ (p : Program) (row : Row) (is : Row-of p row) (states : ℕ) (st : stat
     where
       above : (q : ℕ) → Bit start (suc q) → ⊥
       above q b = let lt = pow-below 0 (suc q) (omega arith) in ⊎-elim (λ e. bit-past start (suc q) (omega (arith, e .0)) b) (λ e. bit-past start (suc q) (omega (arith, e .0)) b) how
+
       to : (q : ℕ) → q < 16 → Bit (row .last) q ⊎ Bit start q → Final p q
       to zero h (inl b) = absurd (let t = last-in p 1 0 (is .ends 0 h .0 b) in omega arith)
       to zero h (inr b) = ⊎-elim (λ e. sym (is .empty) ∙ e .1) (λ e. absurd (bit-none 0 (subst (λ m. Bit m 0) (e .0) b))) how
       to (suc q) h (inl b) = is .ends (suc q) h .0 b
       to (suc q) h (inr b) = absurd (above q b)
+
       from : (q : ℕ) → Final p q → (Bit (row .last) q ⊎ Bit start q) × (q < states)
       from zero t =
           (inr (⊎-elim (λ e. subst (λ m. Bit m 0) (sym (e .0)) refl) (λ e. absurd (both-ways (row .nullable) (e .1) (is .empty ∙ t))) how), omega arith)
@@ -123,16 +124,17 @@ module _ {row : Row} {states : ℕ} {next : List (List ℕ)} {named : List ℕ} 
       record {
         count = st;
         leads = leads-all p row is states st next named (m .long) (m .by) steps;
-        ends = rw (m .mask) (ends-all p row is states st start (m .starts))
+        ends = rw (m .mask) (ends-all p row is states st start (m .starts));
       }
 
 -- the table of an automaton accepts exactly its program's words
 module _ (p : Program) (states : ℕ) (next : List (List ℕ)) (finals : ℕ) (is : Automaton-of p states next finals) where
   accepted : (w : List ℕ) → All (λ c. c < 16) w → (q : ℕ) → Accepted next finals q w ↔ Accepts p q w
   accepted [] h q = is .ends q
-  accepted (c ∷ w) h q =
-      (λ a. (a .0, is .leads q c (a .0) (h .0) .0 (a .1), accepted w (h .1) (a .0) .0 (a .2)),
-       λ a. (a .0, is .leads q c (a .0) (h .0) .1 (a .1), accepted w (h .1) (a .0) .1 (a .2)))
+  accepted (c ∷ w) h q = (
+    λ a. (a .0, is .leads q c (a .0) (h .0) .0 (a .1), accepted w (h .1) (a .0) .0 (a .2)),
+    λ a. (a .0, is .leads q c (a .0) (h .0) .1 (a .1), accepted w (h .1) (a .0) .1 (a .2)),
+  )
 
   pub accepts-words-of : Accepts-words-of p next finals
   accepts-words-of w h =

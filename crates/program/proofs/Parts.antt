@@ -1,10 +1,9 @@
 -- The masks of a program from those of its parts.
-use mathlib.Core.Path.{_≡_, refl, sym, ap, _∙_, subst}
+use mathlib.Core.Path.{_≡_, refl, ap, _∙_, subst}
 use mathlib.Core.Bool.{Bool, true, false, cond}
-use mathlib.Core.Logic.{_⊎_, inl, inr, ⊎-elim, ⊎-map, _↔_}
-use Prim.Native.Nat.{ℕ, _+_, _<_}
-use native.Mathlib.Omega.{arith}
-use lib.Bits.{bitOr, or-comm}
+use mathlib.Core.Logic.{_⊎_, inl, ⊎-elim, ⊎-map}
+use Prim.Native.Nat.{ℕ, _+_}
+use lib.Bits.{bitOr}
 use lib.ListN.{length}
 use Rattle.std.proofs.shelf.Tests.{both-ways}
 use Rattle.program.specs.Automata.{names, nullable, First, Last}
@@ -31,21 +30,20 @@ module _ (p q : Program) (i : ℕ) (l r : Part) (f : Part-of p i l) (g : Part-of
       record {
         empty = h ∙ ap (λ v. cond v true (r .nullable)) (f .empty) ∙ ap (cond (nullable p) true) (g .empty);
         begins = marks-or (First p i) (First q (i + length (names p))) (l .first) (r .first) (f .begins) (g .begins);
-        ends = marks-or (Last p i) (Last q (i + length (names p))) (l .last) (r .last) (f .ends) (g .ends)
+        ends = marks-or (Last p i) (Last q (i + length (names p))) (l .last) (r .last) (f .ends) (g .ends);
       }
 
   pub seq-part : (b : Bool) (begin last e : ℕ) → b ≡ cond (l .nullable) (r .nullable) false
       → begin ≡ cond (l .nullable) (bitOr (l .first) (r .first)) (l .first)
-      → last ≡ cond (r .nullable) (bitOr (l .last) (r .last)) (r .last)
+      → last ≡ cond (r .nullable) (bitOr (r .last) (l .last)) (r .last)
       → Part-of (seq p q) i (record { nullable = b; first = begin; last = last; «end» = e })
   seq-part b begin last e h u v =
-      let w = v ∙ ap (λ m. cond (r .nullable) m (r .last)) (or-comm (l .last) (r .last)) in
       record {
         empty = h ∙ ap (λ v. cond v (r .nullable) false) (f .empty) ∙ ap (λ v. cond (nullable p) v false) (g .empty);
         begins = subst (λ t. Marks begin (λ n. First p i n ⊎ ((t ≡ true) × First q (i + length (names p)) n))) (f .empty)
             (marks-if (First p i) (First q (i + length (names p))) (l .nullable) (l .first) (r .first) begin u (f .begins) (g .begins));
         ends = subst (λ t. Marks last (λ n. Last q (i + length (names p)) n ⊎ ((t ≡ true) × Last p i n))) (g .empty)
-            (marks-if (Last q (i + length (names p))) (Last p i) (r .nullable) (r .last) (l .last) last w (g .ends) (f .ends))
+            (marks-if (Last q (i + length (names p))) (Last p i) (r .nullable) (r .last) (l .last) last v (g .ends) (f .ends));
       }
 
 -- a star of a star has the same masks

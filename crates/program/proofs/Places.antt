@@ -2,7 +2,7 @@
 use mathlib.Core.Path.{_≡_, refl, sym, ap, _∙_, subst}
 use mathlib.Core.Bool.{true, false}
 use mathlib.Core.List.{List, [], _∷_, _++_}
-use mathlib.Core.Logic.{_⊎_, inl, inr, ⊎-elim}
+use mathlib.Core.Logic.{⊎-elim}
 use Prim.Native.Nat.{ℕ, zero, suc, _+_, _-_, _<_, _≤_}
 use native.Mathlib.Omega.{arith}
 use native.Mathlib.Nat.{add-zero}
@@ -31,7 +31,7 @@ head text rest at c e =
     record {
       within = omega (arith, length-drop at text, ap length e);
       is = ap (λ v. getD text v 0) (sym (add-zero at)) ∙ sym (getD-drop at text 0 0) ∙ ap (λ l. getD l 0 0) e;
-      after = past text (c ∷ []) rest at e
+      after = past text (c ∷ []) rest at e;
     }
 
 pub seen : (text : List ℕ) (at c : ℕ) → at < length text → getD text at 0 ≡ c → drop at text ≡ c ∷ drop (at + 1) text
@@ -52,14 +52,14 @@ run-end P text bs rest at r low high all stops each e halts =
     let size = inside text bs rest at (omega arith) e in
     ⊎-elim (λ same. same)
     (⊎-elim
-     (λ short.
-       let k = r - at in
-       let i : at + k ≡ r = omega arith in
-       absurd (stops (omega arith) (subst P (sym (at-reads 0 text bs at rest e k (omega arith)) ∙ ap (λ v. getD text v 0) i) (each k (omega arith)))))
-     (λ long.
-       let i = at + length bs in
-       let s = seen text i (getD text i 0) (omega arith) refl in
-       absurd (subst (Halts P) (sym (past text bs rest at e) ∙ s) halts (all i (omega arith) long))))
+    (λ short.
+    let k = r - at in
+    let i : at + k ≡ r = omega arith in
+    absurd (stops (omega arith) (subst P (sym (at-reads 0 text bs at rest e k (omega arith)) ∙ ap (λ v. getD text v 0) i) (each k (omega arith)))))
+    (λ long.
+    let i = at + length bs in
+    let s = seen text i (getD text i 0) (omega arith) refl in
+    absurd (subst (Halts P) (sym (past text bs rest at e) ∙ s) halts (all i (omega arith) long))))
     (cases-order r (at + length bs))
 
 -- where a name ends

@@ -3,19 +3,18 @@ use mathlib.Core.Path.{_≡_, refl, sym, ap, _∙_, subst}
 use mathlib.Core.Bool.{Bool, true, false, cond}
 use mathlib.Core.List.{List, [], _∷_, _++_}
 use mathlib.Core.Logic.{_⊎_, inl, inr, ⊎-elim}
-use Prim.Native.Nat.{ℕ, zero, suc, _+_, _-_, _<_, _≤_}
+use Prim.Native.Nat.{ℕ, zero, suc, _+_, _-_, _<_}
 use native.Mathlib.Numerals.{add-one}
 use native.Mathlib.Omega.{arith}
 use lib.Dec.{eqb, leb}
 use lib.ListN.{length, getD}
-use Rattle.std.specs.declared.option.Option.{Option}
 use Rattle.std.specs.declared.option.Option.the-variants.{Some, None}
 use Rattle.std.proofs.shelf.Lists.{append-assoc, append-nil, length-push, getD-append-left, getD-push}
 use Rattle.std.proofs.shelf.Tests.{leb-false, eqb-true, eqb-false, cases-order}
 use Rattle.std.proofs.shelf.Ways.{tells}
 use Rattle.program.specs.Names.{letter, naming, Named}
 use Rattle.program.specs.Steps.{stand, stepped, lengthened}
-use Rattle.program.specs.Text.{Tree, Kind, factor, sequence, sum, Spells, named, group, star, lone, semi, single, plus, Well-formed, Begun}
+use Rattle.program.specs.Text.{Tree, Kind, factor, sum, Spells, named, group, star, lone, semi, single, plus, Well-formed, Begun}
 use Rattle.program.specs.declared.check.Prefix.{Prefix}
 use Rattle.program.proofs.Goes.{Goes}
 
@@ -78,7 +77,7 @@ one-letter c h =
       some = omega arith;
       short = omega arith;
       begins = h;
-      rest = λ k l. let z : k ≡ 0 = omega arith in subst (λ v. naming (getD (c ∷ []) v 0) ≡ true) (sym z) n
+      rest = λ k l. let z : k ≡ 0 = omega arith in subst (λ v. naming (getD (c ∷ []) v 0) ≡ true) (sym z) n;
     }
 
 longer-name : (f : List ℕ) (c : ℕ) → naming c ≡ true → length f < 16 → Named f → Named (f ++ c ∷ [])
@@ -89,10 +88,10 @@ longer-name f c h l n =
       short = omega arith;
       begins = ap letter (getD-append-left f (c ∷ []) 0 0 (n .some)) ∙ n .begins;
       rest = λ k less.
-        ⊎-elim
-        (λ e. ap naming (getD-push f c 0 k (sym e)) ∙ h)
-        (⊎-elim (λ low. ap naming (getD-append-left f (c ∷ []) 0 k low) ∙ n .rest k low) (λ high. absurd (omega arith)))
-        (cases-order k (length f))
+          ⊎-elim
+          (λ e. ap naming (getD-push f c 0 k (sym e)) ∙ h)
+          (⊎-elim (λ low. ap naming (getD-append-left f (c ∷ []) 0 k low) ∙ n .rest k low) (λ high. absurd (omega arith)))
+          (cases-order k (length f));
     }
 
 after-letter : (d c : ℕ) (u : List ℕ) → letter c ≡ true → Due d u → Known (u ++ c ∷ []) false d 1
@@ -129,49 +128,52 @@ known-due : (u : List ℕ) (d n c : ℕ) (m : Prefix) → Known u true d n → s
 known-due u d n c m k h =
     ⊎-elim (λ x. never (x .1))
     (λ x. ⊎-elim (λ x. never (x .1))
-     (λ x. ⊎-elim (λ x. never (x .1))
-      (λ x. ⊎-elim
-       (λ x. let e = eqb-true c 40 (x .0) in ⊎-elim (λ y. never (y .1)) (λ y. to (u ++ c ∷ []) (stand true (d + 1) 0) m (y .1) (rw (e, add-one) (after-open d u (leb-false 8 d (y .0)) k))) (pick (leb 8 d) (x .1)))
-       (λ x. ⊎-elim (λ x. never (x .1))
-        (λ x. ⊎-elim (λ x. to (u ++ c ∷ []) (stand false d 1) m (x .1) (after-letter d c u (x .0) k))
-         (λ x. ⊎-elim (λ x. never (x .1)) (λ x. never (x .1)) (pick (naming c) (x .1)))
-         (pick (letter c) (x .1)))
-        (pick (eqb c 41) (x .1)))
-       (pick (eqb c 40) (x .1)))
-      (pick (eqb c 42) (x .1)))
-     (pick (eqb c 59) (x .1)))
+    (λ x. ⊎-elim (λ x. never (x .1))
+    (λ x. ⊎-elim
+    (λ x. let e = eqb-true c 40 (x .0) in ⊎-elim (λ y. never (y .1))
+    (λ y. to (u ++ c ∷ []) (stand true (d + 1) 0) m (y .1) (rw (e, add-one) (after-open d u (leb-false 8 d (y .0)) k))) (pick (leb 8 d) (x .1)))
+    (λ x. ⊎-elim (λ x. never (x .1))
+    (λ x. ⊎-elim (λ x. to (u ++ c ∷ []) (stand false d 1) m (x .1) (after-letter d c u (x .0) k))
+    (λ x. ⊎-elim (λ x. never (x .1)) (λ x. never (x .1)) (pick (naming c) (x .1)))
+    (pick (letter c) (x .1)))
+    (pick (eqb c 41) (x .1)))
+    (pick (eqb c 40) (x .1)))
+    (pick (eqb c 42) (x .1)))
+    (pick (eqb c 59) (x .1)))
     (pick (eqb c 43) h)
 
 known-done : (u : List ℕ) (d n c : ℕ) (m : Prefix) → Known u false d n → stepped (stand false d n) c ≡ Some m → Known-at (u ++ c ∷ []) m
 known-done u d n c m k h =
     ⊎-elim (λ x. let e = eqb-true c 43 (x .0) in to (u ++ c ∷ []) (stand true d 0) m (x .1) (rw e (after-plus d u (k .0))))
     (λ x. ⊎-elim (λ x. let e = eqb-true c 59 (x .0) in to (u ++ c ∷ []) (stand true d 0) m (x .1) (rw e (after-semi d u (k .0))))
-     (λ x. ⊎-elim (λ x. let e = eqb-true c 42 (x .0) in to (u ++ c ∷ []) (stand false d 0) m (x .1) (rw e (outside d (u ++ 42 ∷ []) (after-star d u (k .0)))))
-      (λ x. ⊎-elim (λ x. never (x .1))
-       (λ x. ⊎-elim
-        (λ x. ⊎-elim (λ y. never (y .1)) (λ y. closing d (eqb-false d 0 (y .0)) (eqb-true c 41 (x .0)) (k .0) (y .1)) (pick (eqb d 0) (x .1)))
-        (λ x. ⊎-elim (λ x. name-on (named-byte c (x .0)) (x .1))
-         (λ x. ⊎-elim (λ x. name-on (x .0) (x .1)) (λ x. never (x .1)) (pick (naming c) (x .1)))
-         (pick (letter c) (x .1)))
-        (pick (eqb c 41) (x .1)))
-       (pick (eqb c 40) (x .1)))
-      (pick (eqb c 42) (x .1)))
-     (pick (eqb c 59) (x .1)))
+    (λ x. ⊎-elim (λ x. let e = eqb-true c 42 (x .0) in to (u ++ c ∷ []) (stand false d 0) m (x .1) (rw e (outside d (u ++ 42 ∷ []) (after-star d u (k .0)))))
+    (λ x. ⊎-elim (λ x. never (x .1))
+    (λ x. ⊎-elim
+    (λ x. ⊎-elim (λ y. never (y .1)) (λ y. closing d (eqb-false d 0 (y .0)) (eqb-true c 41 (x .0)) (k .0) (y .1)) (pick (eqb d 0) (x .1)))
+    (λ x. ⊎-elim (λ x. name-on (named-byte c (x .0)) (x .1))
+    (λ x. ⊎-elim (λ x. name-on (x .0) (x .1)) (λ x. never (x .1)) (pick (naming c) (x .1)))
+    (pick (letter c) (x .1)))
+    (pick (eqb c 41) (x .1)))
+    (pick (eqb c 40) (x .1)))
+    (pick (eqb c 42) (x .1)))
+    (pick (eqb c 59) (x .1)))
     (pick (eqb c 43) h)
   where
     named-byte : (c : ℕ) → letter c ≡ true → naming c ≡ true
     named-byte c h = grind (arith, tells)
+
     closing : (d : ℕ) → (d ≡ 0 → ⊥) → c ≡ 41 → Done d u → Some (stand false (d - 1) 0) ≡ Some m → Known-at (u ++ c ∷ []) m
     closing zero some e w y = absurd (some refl)
     closing (suc d) some e w y =
         let f : suc d - 1 ≡ d = omega arith in
         to (u ++ c ∷ []) (stand false (suc d - 1) 0) m y (rw (e, f) (outside d (u ++ 41 ∷ []) (after-shut d u w)))
+
     name-on : naming c ≡ true → lengthened (stand false d n) ≡ Some m → Known-at (u ++ c ∷ []) m
     name-on h x =
         ⊎-elim (λ y. never (y .1))
         (λ y. ⊎-elim (λ z. never (z .1))
-         (λ z. let e = eqb-false n 0 (y .0) in to (u ++ c ∷ []) (stand false d (n + 1)) m (z .1) (after-naming d n c u h (omega arith) (leb-false 16 n (z .0)) k))
-         (pick (leb 16 n) (y .1)))
+        (λ z. let e = eqb-false n 0 (y .0) in to (u ++ c ∷ []) (stand false d (n + 1)) m (z .1) (after-naming d n c u h (omega arith) (leb-false 16 n (z .0)) k))
+        (pick (leb 16 n) (y .1)))
         (pick (eqb n 0) x)
 
 known-step : (b : Bool) (u : List ℕ) (d n c : ℕ) (m : Prefix) → Known u b d n → stepped (stand b d n) c ≡ Some m → Known-at (u ++ c ∷ []) m

@@ -2,23 +2,22 @@
 use mathlib.Core.Path.{_≡_, refl, sym, ap, _∙_, subst}
 use mathlib.Core.Bool.{true}
 use mathlib.Core.List.{List, [], _∷_, _++_}
-use mathlib.Core.Logic.{_⊎_, inl, inr, ⊎-elim}
+use mathlib.Core.Logic.{inr}
 use Prim.Native.Nat.{ℕ, zero, suc, _+_, _-_, _<_, _≤_}
-use native.Mathlib.Numerals.{add-one}
 use native.Mathlib.Omega.{arith}
 use lib.ListN.{length, getD, drop, replicate}
 use Rattle.std.specs.Results.{Cases, ErrBy}
 use Rattle.std.specs.Vec.{made}
 use Rattle.std.specs.declared.result.Result.{Result}
 use Rattle.std.specs.declared.result.Result.the-variants.{Ok, Err}
-use Rattle.std.proofs.shelf.Lists.{append-assoc, append-nil, length-append, length-replicate, replicate-more}
+use Rattle.std.proofs.shelf.Lists.{append-assoc, length-append, length-replicate}
 use Rattle.std.proofs.shelf.Results.{err-from-errBy}
 use Rattle.std.proofs.shelf.Tests.{both-ways}
 use Rattle.program.specs.Automata.{names}
 use Rattle.program.specs.Names.{Named, letter}
 use Rattle.program.specs.Programs.{Means}
-use Rattle.program.specs.Reading.{Part-of, Entered, Joined, Atom, word, inner, Unnamed, Ends, Read-as, Unread, Reads-word, Reads-atom, Reads-part}
-use Rattle.program.specs.Text.{Tree, leaf, choice, chain, repeat, Kind, factor, sequence, sum, Spells, named, group, star as starred, lone, semi, single, plus}
+use Rattle.program.specs.Reading.{Closed-off, Part-of, Entered, Joined, word, inner, Ends, Read-as, Unread, Reads-word, Reads-atom, Reads-part}
+use Rattle.program.specs.Text.{Tree, factor, sequence, sum, Spells, lone, semi, single, plus}
 use Rattle.program.specs.Words.{Program, either, seq, star}
 use Rattle.program.specs.declared.fault.ProgramFault.{ProgramFault}
 use Rattle.program.specs.declared.name.Name.{Name}
@@ -26,51 +25,22 @@ use Rattle.program.specs.declared.row.Draft.{Draft}
 use Rattle.program.specs.declared.row.Part.{Part}
 use Rattle.program.proofs.Drafts.{next-name, either-entered, seq-entered, star-entered, entered-again}
 use Rattle.program.proofs.Parts.{part-again}
+use Rattle.program.proofs.Ends.{ends-sum, ends-sequence, not-plus, not-semi}
+use Rattle.program.proofs.Factors.{trees, stars, Unstarred, unstarred}
 use Rattle.program.proofs.Places.{past, Head, head, seen, stars-end, unnamed}
 
 -- the exit of a `?`
 pub err-is : {T E : Type 0} {r : Result T E} {x : E} → ErrBy r (λ y. y ≡ x) → r ≡ Err x
 err-is {T} {E} {r} {x} h = let p = err-from-errBy r h in p .1 ∙ ap Err (p .2)
 
-pub made-cases : {T E : Type 0} (P R : T → Type 0) (Q : E → Type 0) (r : Result T E) → Cases r P Q → ((x : T) → P x → R x) → made r R
-made-cases P R Q (Ok x) h f = f x h
-made-cases P R Q (Err y) h f = tt
+pub closed-bound : (text : List ℕ) (l : Part) (r : Result Part ProgramFault) (at n : ℕ) → at < l .«end» → n ≤ l .«end» → Closed-off text l r
+    → made r (λ p. (at < p .«end») × (p .«end» ≤ length text) × (n ≤ p .«end»))
+closed-bound text l (Ok p) at n low names h = omega arith
+closed-bound text l (Err f) at n low names h = tt
 
 -- the byte c stands at a place
 abbrev pub At : List ℕ → ℕ → ℕ → Type 0
 At text at c = (at < length text) × (getD text at 0 ≡ c)
-
--- a part with so many stars
-abbrev trees : ℕ → Tree → Tree
-trees zero t = t
-trees (suc k) t = repeat (trees k t)
-
-abbrev stars : ℕ → Program → Program
-stars zero p = p
-stars (suc k) p = star (stars k p)
-
--- a factor is an atom and its stars
-record Unstarred (d : ℕ) (bs : List ℕ) (t : Tree) : Type 0 where
-  base : List ℕ
-  count : ℕ
-  tree : Tree
-  atom : Atom d base tree
-  bytes : bs ≡ base ++ replicate count 42
-  is : t ≡ trees count tree
-
-unstarred : {d : ℕ} {bs : List ℕ} {t : Tree} → Spells factor d bs t → Unstarred d bs t
-unstarred {d} {bs} (named h) = record { base = bs; count = 0; tree = leaf bs; atom = word h; bytes = sym (append-nil bs); is = refl }
-unstarred {d} {bs} {t} (group h r) = record { base = bs; count = 0; tree = t; atom = inner r; bytes = sym (append-nil bs); is = refl }
-unstarred (starred r) =
-    let u = unstarred r in
-    record {
-      base = u .base;
-      count = suc (u .count);
-      tree = u .tree;
-      atom = u .atom;
-      bytes = ap (λ v. v ++ 42 ∷ []) (u .bytes) ∙ append-assoc (u .base) (replicate (u .count) 42) (42 ∷ []) ∙ ap (λ v. u .base ++ v) (replicate-more (u .count) 42 ∙ ap (λ v. replicate v 42) (add-one (u .count)));
-      is = ap repeat (u .is)
-    }
 
 means-stars : (acts : List Name) (k : ℕ) (t : Tree) (p : Program) → Means acts t p → Means acts (trees k t) (stars k p)
 means-stars acts zero t p m = m
@@ -108,20 +78,6 @@ module _ (text : List ℕ) (at : ℕ) (acts : List Name) (old : Draft) where
   -- a whole part is followed by rest, not by the byte c
   no-turn : (bs rest : List ℕ) (c end : ℕ) → drop at text ≡ bs ++ rest → end ≡ at + length bs → At text end c → rest ≡ c ∷ drop (end + 1) text
   no-turn bs rest c end e i h = sym (past text bs rest at e) ∙ ap (λ v. drop v text) (sym i) ∙ seen text end c (h .0) (h .1)
-
-  ends-sum : (rest : List ℕ) → Ends sum rest → Ends sequence rest
-  ends-sum [] h = tt
-  ends-sum (c ∷ rest) h = inl h
-
-  ends-sequence : (rest : List ℕ) → Ends sequence rest → Ends factor rest
-  ends-sequence [] h = tt
-  ends-sequence (c ∷ rest) h = ⊎-elim inl (λ x. inr (inl x)) h
-
-  not-plus : (rest more : List ℕ) → Ends sum rest → rest ≡ 43 ∷ more → ⊥
-  not-plus rest more h e = let z : _≡_ {A = ℕ} 43 41 = subst (Ends sum) e h in omega arith
-
-  not-semi : (rest more : List ℕ) → Ends sequence rest → rest ≡ 59 ∷ more → ⊥
-  not-semi rest more h e = let z : (_≡_ {A = ℕ} 59 41) ⊎ (_≡_ {A = ℕ} 59 43) = subst (Ends sequence) e h in ⊎-elim (λ x. omega arith) (λ x. omega arith) z
 
   -- sums
   pub sum-left-err : (new : Draft) (f : ProgramFault) → Reads-part sequence text at acts old new (Err f) → Reads-part sum text at acts old new (Err f)
@@ -166,7 +122,7 @@ module _ (text : List ℕ) (at : ℕ) (acts : List Name) (old : Draft) where
         means = (u .program, w .program, u .means, w .means, refl);
         reaches = is ∙ both-long ls rs 43 (l .«end») (r .«end») (u .reaches) (w .reaches);
         masks = make (u .program) (w .program) (old .names + 1) (u .masks) (subst (λ i. Part-of (w .program) i r) (next-name (u .program) (w .program) old new new′ f g) (w .masks));
-        entered = either-entered (u .program) (w .program) old new new′ f g
+        entered = either-entered (u .program) (w .program) old new new′ f g;
       }
 
   -- sequences
@@ -212,7 +168,7 @@ module _ (text : List ℕ) (at : ℕ) (acts : List Name) (old : Draft) where
         means = (u .program, w .program, u .means, w .means, refl);
         reaches = is ∙ both-long ls rs 59 (l .«end») (r .«end») (u .reaches) (w .reaches);
         masks = make (u .program) (w .program) (old .names + 1) (u .masks) (subst (λ i. Part-of (w .program) i r) (next-name (u .program) (w .program) old new new′ f g) (w .masks));
-        entered = seq-entered (u .program) (w .program) old new new′ f g new″ l r (u .masks) (w .masks) joined
+        entered = seq-entered (u .program) (w .program) old new new′ f g new″ l r (u .masks) (w .masks) joined;
       }
 
   -- factors
@@ -243,7 +199,7 @@ module _ (text : List ℕ) (at : ℕ) (acts : List Name) (old : Draft) where
           parts = u;
           read = x;
           far = stars-end text rest (u .count) (l .«end») r low high all stops there ends;
-          long = ap length (u .bytes) ∙ length-append (u .base) (replicate (u .count) 42) ∙ ap (λ v. length (u .base) + v) size
+          long = ap length (u .bytes) ∙ length-append (u .base) (replicate (u .count) 42) ∙ ap (λ v. length (u .base) + v) size;
         }
 
     pub factor-alone : r ≡ l .«end» → Reads-part factor text at acts old new (Ok l)
@@ -267,12 +223,12 @@ module _ (text : List ℕ) (at : ℕ) (acts : List Name) (old : Draft) where
         let i : t ≡ trees (suc k) (u .tree) = u .is ∙ ap (λ v. trees v (u .tree)) some in
         subst (λ v. Read-as acts v (at + length bs) old new′ x) (sym i)
         (record {
-           program = stars (suc k) p;
-           means = means-stars acts (suc k) (u .tree) p (y .means);
-           reaches = omega (arith, is, b .far, b .long, y .reaches);
-           masks = masks-stars k (old .names + 1) p x (make p (old .names + 1) (y .masks));
-           entered = entered-stars k p old new′ (star-entered p old new new′ l (y .entered) (y .masks) joined)
-         })
+          program = stars (suc k) p;
+          means = means-stars acts (suc k) (u .tree) p (y .means);
+          reaches = omega (arith, is, b .far, b .long, y .reaches);
+          masks = masks-stars k (old .names + 1) p x (make p (old .names + 1) (y .masks));
+          entered = entered-stars k p old new′ (star-entered p old new new′ l (y .entered) (y .masks) joined);
+        })
 
   -- atoms
   not-letter : (bs rest : List ℕ) → Named bs → drop at text ≡ bs ++ rest → At text at 40 → ⊥
@@ -295,7 +251,7 @@ module _ (text : List ℕ) (at : ℕ) (acts : List Name) (old : Draft) where
   atom-err new f here read bs rest t (d, inner {bs = cs} q) e un = read cs (41 ∷ rest) t (suc d, q) (opened cs rest e) refl
 
   pub atom-closed : (new : Draft) (l : Part) (r : Result Part ProgramFault) → At text at 40 → Reads-part sum text (at + 1) acts old new (Ok l)
-      → Cases r (λ p. (p .«end» ≡ l .«end» + 1) × (p .«end» ≤ length text) × (p .nullable ≡ l .nullable) × (p .first ≡ l .first) × (p .last ≡ l .last)) (λ f. l .«end» < length text → getD text (l .«end») 0 ≡ 41 → ⊥)
+      → Closed-off text l r
       → Reads-atom text at acts old new r
   atom-closed new l r here read how bs rest t (d, word h) e un = absurd (not-letter bs rest h e here)
   atom-closed new l r here read how bs rest t (d, inner {bs = cs} q) e un =
@@ -304,7 +260,7 @@ module _ (text : List ℕ) (at : ℕ) (acts : List Name) (old : Draft) where
       shut r x y how
     where
       shut : (r : Result Part ProgramFault) → Read-as acts t (at + 1 + length cs) old new l → Head text (l .«end») 41 rest
-          → Cases r (λ p. (p .«end» ≡ l .«end» + 1) × (p .«end» ≤ length text) × (p .nullable ≡ l .nullable) × (p .first ≡ l .first) × (p .last ≡ l .last)) (λ f. l .«end» < length text → getD text (l .«end») 0 ≡ 41 → ⊥)
+          → Closed-off text l r
           → Answer new r (40 ∷ (cs ++ 41 ∷ [])) t
       shut (Ok p) x y h =
           let m = x .masks in
@@ -313,6 +269,6 @@ module _ (text : List ℕ) (at : ℕ) (acts : List Name) (old : Draft) where
             means = x .means;
             reaches = omega (arith, h .0, x .reaches, length-append cs (41 ∷ []));
             masks = record { empty = h .2 ∙ m .empty; begins = rw (h .3) (m .begins); ends = rw (h .4) (m .ends) };
-            entered = x .entered
+            entered = x .entered;
           }
       shut (Err f) x y h = absurd (h (y .within) (y .is))

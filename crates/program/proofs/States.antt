@@ -1,7 +1,7 @@
 -- The states of an automaton: where they lie, and that what is said of them is decided.
 use mathlib.Core.Path.{_≡_, refl, subst}
 use mathlib.Core.List.{List, [], _∷_}
-use mathlib.Core.Logic.{_⊎_, inl, inr, _↔_, Dec·and, Dec·of-iff}
+use mathlib.Core.Logic.{_⊎_, inl, inr, Dec·and, Dec·of-iff}
 use mathlib.Core.Bool.{true, Bool-discrete}
 use Prim.Native.Nat.{ℕ, zero, suc, _-_, _<_, _≤_}
 use native.Mathlib.Decide.{ℕ-discrete}
@@ -34,9 +34,10 @@ nullable-is-empty p = accepts-its-words p []
 
 pub accepts-by-parts : Accepts-by-parts
 accepts-by-parts p q [] w = (λ a. (q, refl, a), λ t. rw (t .1) (t .2))
-accepts-by-parts p q (c ∷ u) w =
-    (λ a. let t = accepts-by-parts p (a .0) u w .0 (a .2) in (t .0, (a .0, a .1, t .1), t .2),
-     λ t. let l = t .1 in (l .0, l .1, accepts-by-parts p (l .0) u w .1 (t .0, l .2, t .2)))
+accepts-by-parts p q (c ∷ u) w = (
+  λ a. let t = accepts-by-parts p (a .0) u w .0 (a .2) in (t .0, (a .0, a .1, t .1), t .2),
+  λ t. let l = t .1 in (l .0, l .1, accepts-by-parts p (l .0) u w .1 (t .0, l .2, t .2)),
+)
 
 -- decisions
 pub dec-or : {A B : Type 0} → Dec A → Dec B → Dec (A ⊎ B)
@@ -77,7 +78,7 @@ dec-follow (act a) i m n = no (λ h. h)
 dec-follow (either p r) i m n = dec-or (dec-follow p i m n) (dec-follow r (after p i) m n)
 dec-follow (seq p r) i m n =
     dec-or (dec-follow p i m n)
-        (dec-or (dec-follow r (after p i) m n) (Dec·and (dec-last p i m) (dec-first r (after p i) n)))
+    (dec-or (dec-follow r (after p i) m n) (Dec·and (dec-last p i m) (dec-first r (after p i) n)))
 dec-follow (star p) i m n = dec-or (dec-follow p i m n) (Dec·and (dec-last p i m) (dec-first p i n))
 
 pub dec-leads : (p : Program) (q c n : ℕ) → Dec (Leads p q c n)
@@ -91,11 +92,12 @@ dec-final p (suc q) = dec-last p 1 (suc q)
 pub dec-accepts : (p : Program) (q : ℕ) (w : List ℕ) → Dec (Accepts p q w)
 dec-accepts p q [] = dec-final p q
 dec-accepts p q (c ∷ w) =
-    Dec·of-iff
-    (λ t. (t .0, t .2 .0, t .2 .1),
-     λ t. (t .0, (let b = leads-to p q c (t .0) (t .1) in omega arith), (t .1, t .2)))
+    Dec·of-iff (
+      λ t. (t .0, t .2 .0, t .2 .1),
+      λ t. (t .0, (let b = leads-to p q c (t .0) (t .1) in omega arith), (t .1, t .2)),
+    )
     (dec-below (λ n. Leads p q c n × Accepts p n w) (λ n. Dec·and (dec-leads p q c n) (dec-accepts p n w))
-        (suc (length (names p))))
+    (suc (length (names p))))
 
 pub dec-words : (p : Program) (w : List ℕ) → Dec (Words p w)
 dec-words p w = Dec·of-iff (accepts-its-words p w) (dec-accepts p 0 w)

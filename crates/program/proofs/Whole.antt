@@ -1,32 +1,35 @@
 -- What the reader of a whole text gives.
 use mathlib.Core.Path.{_≡_, refl, sym, ap, _∙_, subst}
 use mathlib.Core.List.{List, [], _++_}
-use mathlib.Core.Logic.{_⊎_, inl, inr, ⊎-elim}
+use mathlib.Core.Logic.{inr, ⊎-elim}
 use Prim.Native.Nat.{ℕ, _+_, _-_, _<_, _≤_}
 use native.Mathlib.Nat.{mod-eq-of-lt}
 use native.Mathlib.Omega.{arith}
 use lib.ListN.{length, getD, replicate}
-use Rattle.std.specs.declared.result.Result.{Result}
 use Rattle.std.specs.declared.result.Result.the-variants.{Ok, Err}
 use Rattle.std.proofs.shelf.Lists.{append-nil, getD-append-left, getD-append-right, getD-replicate, length-append}
 use Rattle.std.proofs.shelf.Tests.{cases-lt}
-use Rattle.program.specs.Automata.{names, Follow}
+use Rattle.program.specs.Automata.{names}
+use Rattle.program.specs.Faults.{Malformed-by}
 use Rattle.program.specs.Masks.{Bit}
 use Rattle.program.specs.Programs.{Means, Spells-program, Spells-row, Refused}
 use Rattle.program.specs.Reading.{Read-as, Reads-part}
-use Rattle.program.specs.Rows.{Row-of}
-use Rattle.program.specs.Text.{Tree, leaf, choice, chain, repeat, sum, Spells, Well-formed}
+use Rattle.program.specs.Text.{Tree, leaf, choice, chain, repeat, sum, Well-formed}
 use Rattle.program.specs.Words.{Program}
 use Rattle.program.specs.declared.fault.ProgramFault.{ProgramFault}
-use Rattle.program.specs.declared.fault.ProgramFault.the-variants.{Undeclared}
+use Rattle.program.specs.declared.fault.ProgramFault.the-variants.{Malformed, Undeclared, TooMany}
 use Rattle.program.specs.declared.name.Name.{Name}
 use Rattle.program.specs.declared.row.Draft.{Draft}
 use Rattle.program.specs.declared.row.Part.{Part}
-use Rattle.program.specs.declared.row.Row.{Row}
 use Rattle.program.proofs.Bits.{bit-none}
 
 abbrev pub blank : Draft
 blank = record { names = 0; actions = replicate 16 0; follow = replicate 16 0 }
+
+pub malformed : (text : List ℕ) (acts : List Name) (f : ProgramFault) → Malformed-by text f → Refused text acts f
+malformed text acts (Malformed column) h = h
+malformed text acts Undeclared h = absurd h
+malformed text acts TooMany h = absurd h
 
 -- the names of a program over the actions are numbers of actions
 two-below : (xs ys : List ℕ) (n : ℕ) → ((k : ℕ) → k < length xs → getD xs k 0 < n) → ((k : ℕ) → k < length ys → getD ys k 0 < n)
@@ -73,22 +76,21 @@ module _ (text : List ℕ) (acts : List Name) (old new : Draft) (from : old ≡ 
     whole-row h =
         let e = whole .entered in
         let m = whole .masks in
-        let count : new .names ≡ length (names (whole .program)) = omega (arith, e .count) in
-        (
+        let count : new .names ≡ length (names (whole .program)) = omega (arith, e .count) in (
           whole .program,
           spells,
           λ bytes. record {
             count = count;
             few = omega arith;
             acts = λ k less.
-              let i : 0 + k + 1 ≡ k + 1 = omega arith in
-              let low = names-below acts (well .0) (whole .program) (whole .means) k less in
-              ap (λ v. getD (new .actions) v 0) (sym i) ∙ e .acts k less (omega arith) ∙ mod-eq-of-lt (omega arith);
+                let i : 0 + k + 1 ≡ k + 1 = omega arith in
+                let low = names-below acts (well .0) (whole .program) (whole .means) k less in
+                ap (λ v. getD (new .actions) v 0) (sym i) ∙ e .acts k less (omega arith) ∙ mod-eq-of-lt (omega arith);
             empty = m .empty;
             begins = m .begins;
             ends = m .ends;
             goes-on = λ k less n low.
-              let t = e .goes-on k less n low in
-              (λ b. ⊎-elim (λ z. absurd (bit-none n (subst (λ v. Bit v n) (getD-replicate 16 k 0 0 less) z))) (λ f. f) (t .0 b), λ f. t .1 (inr f))
+                let t = e .goes-on k less n low in
+                (λ b. ⊎-elim (λ z. absurd (bit-none n (subst (λ v. Bit v n) (getD-replicate 16 k 0 0 less) z))) (λ f. f) (t .0 b), λ f. t .1 (inr f));
           },
         )

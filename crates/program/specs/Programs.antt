@@ -33,3 +33,7 @@ Refused text acts TooMany = (p : Program) × Spells-program text acts p × (15 <
 -- the row is that of the program that the text spells, where the numbers of the actions fit a byte
 abbrev pub Spells-row : List ℕ → List Name → Row → Type 0
 Spells-row text acts row = (p : Program) × Spells-program text acts p × (length acts ≤ 256 → Row-of p row)
+
+-- a text spells at most one program
+abbrev pub One-program : Type 0
+One-program = (text : List ℕ) (acts : List Name) (p q : Program) → Spells-program text acts p → Spells-program text acts q → p ≡ q

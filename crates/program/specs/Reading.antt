@@ -78,11 +78,21 @@ Reads S E text at acts old new r =
     → E rest
     → Cases r (Read-as acts t (at + length bs) old new) (Unread acts t)
 
+-- where a name or a sum in parentheses stands
 abbrev pub Reads-atom : List ℕ → ℕ → List Name → Draft → Draft → Result Part ProgramFault → Type 0
 Reads-atom = Reads (λ bs t. (d : ℕ) × Atom d bs t) Unnamed
 
+-- where a factor, a sequence or a sum stands
 abbrev pub Reads-part : Kind → List ℕ → ℕ → List Name → Draft → Draft → Result Part ProgramFault → Type 0
 Reads-part k = Reads (λ bs t. (d : ℕ) × Spells k d bs t) (Ends k)
 
+-- where a name stands
 abbrev pub Reads-word : List ℕ → ℕ → List Name → Draft → Draft → Result Part ProgramFault → Type 0
 Reads-word = Reads (λ bs t. Named bs × (t ≡ leaf bs)) Unnamed
+
+-- the sum that was read, one byte further where its closing parenthesis stands
+abbrev pub Closed-off : List ℕ → Part → Result Part ProgramFault → Type 0
+Closed-off text l r =
+    Cases r
+    (λ p. (p .«end» ≡ l .«end» + 1) × (p .«end» ≤ length text) × (p .nullable ≡ l .nullable) × (p .first ≡ l .first) × (p .last ≡ l .last))
+    (λ f. l .«end» < length text → getD text (l .«end») 0 ≡ 41 → ⊥)

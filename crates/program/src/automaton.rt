@@ -1,6 +1,6 @@
 // The automaton of a program: states 0 to its number of names, at most 16, and a mask of target states for each state and action.
 ghost use mathlib.Core.Path.{_≡_};
-ghost use Prim.Native.Nat.{ℕ, _+_, _-_, _/_, _%_, _^_, _<_, _≤_};
+ghost use Prim.Native.Nat.{ℕ, _-_, _/_, _%_, _^_, _<_, _≤_};
 ghost use lib.Bits.{bitAnd};
 ghost use lib.Dec.{eqb, ltb};
 ghost use mathlib.Core.Bool.{_&&_};
@@ -28,7 +28,11 @@ fn all_of(states: usize) -> u16
     requires { ⌜ states ≤ 16 ⌝ }
     ensures { λ r. ⌜ r ≡ 2 ^ states - 1 ⌝ }
 {
-    if states == 16 { 0xffff } else { (1 << states) - 1 }
+    if states == 16 {
+        0xffff
+    } else {
+        (1 << states) - 1
+    }
 }
 
 // The names of each action.
@@ -92,7 +96,11 @@ impl Automaton {
         ensures none { λ r. ⌜ (16 ≤ state → r ≡ 0) ⌝ ∗ ⌜ (16 ≤ action → r ≡ 0) ⌝ }
         ensures within { λ r. ⌜ r < 2 ^ now (self .entry) .states ⌝ }
     {
-        if state < 16 && action < 16 { self.next[state][action] } else { 0 }
+        if state < 16 && action < 16 {
+            self.next[state][action]
+        } else {
+            0
+        }
     }
 
     // The final states.

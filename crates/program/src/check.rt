@@ -1,9 +1,7 @@
 // The checker of prefixes: it reads a text byte by byte and stops where no program can go on so.
 ghost use mathlib.Core.Path.{_≡_};
-ghost use Prim.Native.Nat.{ℕ, _+_, _<_, _≤_};
 ghost use lib.Dec.{eqb};
-ghost use lib.ListN.{length, getD};
-ghost use mathlib.Core.Bool.{Bool, true, false, not, cond, _&&_};
+ghost use mathlib.Core.Bool.{true, not, _&&_};
 ghost use Rattle.std.specs.Results.{Cases};
 ghost use Rattle.program.specs.Faults.{Malformed-by};
 ghost use Rattle.program.specs.Steps.{stand, operated, starred, opened, shut, lengthened, lettered, stepped};

@@ -7,8 +7,8 @@ ghost use lib.ListN.{length, getD};
 ghost use Rattle.std.specs.Results.{Cases};
 ghost use Rattle.std.specs.Vec.{made};
 ghost use Rattle.program.specs.Names.{naming as is-naming};
-ghost use Rattle.program.specs.Programs.{Refused, Spells-row};
-ghost use Rattle.program.specs.Reading.{Reads-word, Reads-atom, Reads-part};
+ghost use Rattle.program.specs.Programs.{One-program, Refused, Spells-row};
+ghost use Rattle.program.specs.Reading.{Closed-off, Reads-word, Reads-atom, Reads-part};
 ghost use Rattle.program.specs.Text.{Kind};
 use crate::check::check;
 use crate::fault::ProgramFault;
@@ -73,7 +73,7 @@ fn action(text: &[u8], at: usize, acts: &[Name], draft: &mut Draft) -> Result<Pa
 
 // The sum that was read behind an opening parenthesis, with the closing one.
 fn closed(text: &[u8], inside: Part) -> Result<Part, ProgramFault>
-    ensures { λ r. ⌜ Cases r (λ p. (p .end ≡ inside .end + 1) × (p .end ≤ length (now (text .entry))) × (p .nullable ≡ inside .nullable) × (p .first ≡ inside .first) × (p .last ≡ inside .last)) (λ f. (inside .end < length (now (text .entry)) → getD (now (text .entry)) (inside .end) 0 ≡ 41 → ⊥)) ⌝ }
+    ensures { λ r. ⌜ Closed-off (now (text .entry)) inside r ⌝ }
 {
     let end = inside.end;
     if end < text.len() && text[end] == b')' {
@@ -151,6 +151,7 @@ fn sum(text: &[u8], at: usize, acts: &[Name], draft: &mut Draft) -> Result<Part,
 // The row of the program that the text spells over the declared actions, or why there is none.
 pub fn read(text: &[u8], acts: &[Name]) -> Result<Row, ProgramFault>
     ensures names { λ r. ⌜ made r (λ row. row .names ≤ 15) ⌝ }
+    ensures one { λ r. ⌜ One-program ⌝ }
     ensures says { λ r. ⌜ Cases r (λ row. Spells-row (now (text .entry)) (now (acts .entry)) row) (λ f. Refused (now (text .entry)) (now (acts .entry)) f) ⌝ }
 {
     check(text)?;

@@ -3,7 +3,8 @@
 ghost use mathlib.Core.Path.{_≡_};
 ghost use Prim.Native.Nat.{ℕ, _+_, _^_, _<_, _≤_};
 ghost use lib.ListN.{length, replicate};
-ghost use mathlib.Core.Bool.{true};
+ghost use mathlib.Core.Bool.{cond};
+ghost use lib.Bits.{bitOr};
 ghost use Rattle.program.specs.Automata.{names as names-of};
 ghost use Rattle.program.specs.Masks.{Marks};
 ghost use Rattle.program.specs.Reading.{Part-of, Entered, Joined};
@@ -22,7 +23,9 @@ pub struct Row {
 
 impl Row {
     // A row of no name, for places not in use.
-    pub fn blank() -> Row {
+    pub fn blank() -> Row
+        ensures { λ r. ⌜ r .names ≡ 0 ⌝ }
+    {
         Row {
             names: 0,
             actions: [0; 16],
@@ -39,7 +42,11 @@ impl Row {
         ensures bound { λ r. ⌜ (1 ≤ r) × (r ≤ 16) ⌝ }
         ensures count { λ r. ⌜ (now (self .entry) .names < 16 → r ≡ now (self .entry) .names + 1) ⌝ }
     {
-        if self.names < 16 { self.names as usize + 1 } else { 16 }
+        if self.names < 16 {
+            self.names as usize + 1
+        } else {
+            16
+        }
     }
 }
 
@@ -50,6 +57,16 @@ pub struct Part {
     pub first: u16,
     pub last: u16,
     pub end: usize,
+}
+
+// The names of a mask, and those of another where `also` says so.
+fn with(mask: u16, more: u16, also: bool) -> u16
+    ensures { λ r. ⌜ r ≡ cond also (bitOr mask more) mask ⌝ }
+{
+    if also {
+        return mask | more;
+    }
+    mask
 }
 
 impl Part {
@@ -73,8 +90,8 @@ impl Part {
     {
         Part {
             nullable: self.nullable && right.nullable,
-            first: if self.nullable { self.first | right.first } else { self.first },
-            last: if right.nullable { self.last | right.last } else { right.last },
+            first: with(self.first, right.first, self.nullable),
+            last: with(right.last, self.last, right.nullable),
             end: right.end,
         }
     }

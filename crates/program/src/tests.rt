@@ -30,7 +30,10 @@ fn leads_from_zero() -> Result<(), Fail> {
 fn refuses() -> Result<(), Fail> {
     let acts = [Name::read(b"a").ok_or("a")?];
     check(matches!(read(b"a;b", &acts), Err(ProgramFault::Undeclared)))?;
-    check(matches!(read(b"a;a;a;a;a;a;a;a;a;a;a;a;a;a;a;a", &acts), Err(ProgramFault::TooMany)))
+    check(matches!(
+        read(b"a;a;a;a;a;a;a;a;a;a;a;a;a;a;a;a", &acts),
+        Err(ProgramFault::TooMany)
+    ))
 }
 
 #[test]

@@ -45,6 +45,19 @@ pub enum Alternatives {
     Two(Few, Few),
 }
 
+impl Alternatives {
+    // One claim or another; where they are the same claim there is no choice.
+    fn either(a: u8, b: u8) -> Alternatives
+        ensures { λ r. ⌜ Small r ⌝ }
+    {
+        if a == b {
+            Alternatives::One(Few::one(a))
+        } else {
+            Alternatives::Two(Few::one(a), Few::one(b))
+        }
+    }
+}
+
 // The rules for a node that is being formed, of this phase.
 #[derive(Clone, Copy)]
 pub struct Rules<'a> {
@@ -78,9 +91,7 @@ impl<'a> Rules<'a> {
         match self.declared.form(e as usize) {
             Form::Not(f) => Alternatives::One(Few::one(self.false_form(f))),
             Form::And(f, g) => Alternatives::One(Few::two(self.true_form(f), self.true_form(g))),
-            Form::Or(f, g) => {
-                Alternatives::Two(Few::one(self.true_form(f)), Few::one(self.true_form(g)))
-            }
+            Form::Or(f, g) => Alternatives::either(self.true_form(f), self.true_form(g)),
             _ => Alternatives::Nothing,
         }
     }
@@ -90,9 +101,7 @@ impl<'a> Rules<'a> {
     {
         match self.declared.form(e as usize) {
             Form::Not(f) => Alternatives::One(Few::one(self.true_form(f))),
-            Form::And(f, g) => {
-                Alternatives::Two(Few::one(self.false_form(f)), Few::one(self.false_form(g)))
-            }
+            Form::And(f, g) => Alternatives::either(self.false_form(f), self.false_form(g)),
             Form::Or(f, g) => Alternatives::One(Few::two(self.false_form(f), self.false_form(g))),
             _ => Alternatives::Nothing,
         }

@@ -1,4 +1,8 @@
 // Reads a document from standard input, grows its goal's graph to the end, and writes the verdict with its lasso.
+ghost use mathlib.Core.Path.{_≡_};
+ghost use Rattle.document.specs.Faults.{loadCode, loadLine};
+ghost use Rattle.study.specs.Refusals.{refusalCode};
+ghost use Rattle.verdict.specs.declared.Outcome.the-variants.{Refused};
 use document::fault::LoadFault;
 use lasso::step::Step;
 use std::alloc::AllocError;
@@ -50,7 +54,9 @@ fn spelled(word: Word) -> &'static str {
     }
 }
 
-fn refused_call(refusal: Refusal) -> Outcome {
+fn refused_call(refusal: Refusal) -> Outcome
+    ensures { λ r. ⌜ r ≡ Refused (refusalCode refusal) 0 ⌝ }
+{
     Outcome::Refused {
         code: refusal.code(),
         line: 0,
@@ -94,7 +100,9 @@ fn settle(study: &mut Study, work: &mut [u64], steps: &mut [Step], text: &mut [u
     }
 }
 
-fn refused_load(fault: LoadFault) -> Outcome {
+fn refused_load(fault: LoadFault) -> Outcome
+    ensures { λ r. ⌜ r ≡ Refused (loadCode fault) (loadLine fault) ⌝ }
+{
     Outcome::Refused {
         code: fault.code(),
         line: fault.line(),

@@ -14,8 +14,8 @@ returns-then-end-at c =
     record {
       bound = tt;
       reads = λ bs rest t n e un.
-        let i = word-end (c .args .text .now) bs rest (c .args .at) (c .name-end-end .result) (s .within .0) (s .within .1) (s .all) (s .stops) (n .0) e un in
-        absurd (omega (arith, n .0 .some))
+          let i = word-end (c .args .text .now) bs rest (c .args .at) (c .name-end-end .result) (s .within .0) (s .within .1) (s .all) (s .stops) (n .0) e un in
+          absurd (omega (arith, n .0 .some));
     }
 
 pub returns-in-None : need.returns-in-None
@@ -24,10 +24,10 @@ returns-in-None c =
     record {
       bound = tt;
       reads = λ bs rest t n e un.
-        let i = word-end (c .args .text .now) bs rest (c .args .at) (c .name-end-end .result) (s .within .0) (s .within .1) (s .all) (s .stops) (n .0) e un in
-        let w = word-is (c .args .text .now) bs rest (c .args .at) (c .name-end-end .result) i e in
-        let none : Absent (c .args .acts .now) (length (c .args .acts .now)) bs = subst (Absent (c .args .acts .now) (length (c .args .acts .now))) w (c .in-None .ensures tt) in
-        rw (n .1) (refl, λ p m. none (m .0) (m .1 .0) (m .1 .1))
+          let i = word-end (c .args .text .now) bs rest (c .args .at) (c .name-end-end .result) (s .within .0) (s .within .1) (s .all) (s .stops) (n .0) e un in
+          let w = word-is (c .args .text .now) bs rest (c .args .at) (c .name-end-end .result) i e in
+          let none : Absent (c .args .acts .now) (length (c .args .acts .now)) bs = subst (Absent (c .args .acts .now) (length (c .args .acts .now))) w (c .in-None .ensures tt) in
+          rw (n .1) (refl, λ p m. none (m .0) (m .1 .0) (m .1 .1));
     }
 
 pub returns-in-Some : need.returns-in-Some
@@ -39,15 +39,15 @@ returns-in-Some c =
     record {
       bound = omega (arith, a .count);
       reads = λ bs rest t n e un.
-        let i = word-end (c .args .text .now) bs rest (c .args .at) (c .name-end-end .result) (s .within .0) (s .within .1) (s .all) (s .stops) (n .0) e un in
-        let w = word-is (c .args .text .now) bs rest (c .args .at) (c .name-end-end .result) i e in
-        let found : Number (c .args .acts .now) bs number = subst (λ v. Number (c .args .acts .now) v number) w (c .in-Some .ensures tt) in
-        rw (n .1)
-        (record {
-           program = act number;
-           means = (number, found, refl);
-           reaches = i;
-           masks = record { empty = refl; begins = bits; ends = bits };
-           entered = act-entered number (bitAnd number 255) (c .args .draft .now) (c .add-bit .last .self) (and-mask number 8) (a .entered)
-         })
+          let i = word-end (c .args .text .now) bs rest (c .args .at) (c .name-end-end .result) (s .within .0) (s .within .1) (s .all) (s .stops) (n .0) e un in
+          let w = word-is (c .args .text .now) bs rest (c .args .at) (c .name-end-end .result) i e in
+          let found : Number (c .args .acts .now) bs number = subst (λ v. Number (c .args .acts .now) v number) w (c .in-Some .ensures tt) in
+          rw (n .1)
+          (record {
+            program = act number;
+            means = (number, found, refl);
+            reaches = i;
+            masks = record { empty = refl; begins = bits; ends = bits };
+            entered = act-entered number (bitAnd number 255) (c .args .draft .now) (c .add-bit .last .self) (and-mask number 8) (a .entered);
+          });
     }

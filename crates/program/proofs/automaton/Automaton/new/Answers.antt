@@ -13,7 +13,7 @@ made c =
     let start = c .if-row .start in
     let empty = c .args .row .now .nullable in
     let how : ((start ≡ 1) × (empty ≡ true)) ⊎ ((start ≡ 0) × (empty ≡ false)) =
-        elim (c .if-row .came) [ then-row w ↦ inl (w .start-is, w .if-row .taken) | else-row w ↦ inr (w .start-is, w .if-row .left) ] in
+    elim (c .if-row .came) [ then-row w ↦ inl (w .start-is, w .if-row .taken) | else-row w ↦ inr (w .start-is, w .if-row .left) ] in
     record {
       count = c .states-states .ensures .count;
       mask = c .all-of-all .ensures;
@@ -21,7 +21,7 @@ made c =
       by = c .named-named .ensures;
       zeroth = c .loop-i .inv .1;
       others = λ i k l h. c .loop-i .inv .2 i k l (omega arith);
-      starts = how
+      starts = how;
     }
 
 pub ghost-result : need.ghost-result
@@ -33,5 +33,5 @@ returns c =
     record {
       made = automaton-of m;
       words = λ p is. accepts-words-of p _ _ _ (automaton-of m p is);
-      laws = (accepts-its-words, (accepts-by-parts, nullable-is-empty))
+      laws = (accepts-its-words, (accepts-by-parts, nullable-is-empty));
     }

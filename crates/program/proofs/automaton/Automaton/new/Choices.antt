@@ -1,8 +1,6 @@
 use mathlib.Core.Path.{_≡_}
-use mathlib.Core.Bool.{cond}
 use Prim.Native.Nat.{ℕ, _<_}
 use lib.Bits.{bitAnd}
-use lib.Dec.{eqb}
 use lib.ListN.{length, getD}
 use Rattle.program.specs.Masks.{cell}
 use Rattle.program.proofs.automaton.Automaton.new.Given as given

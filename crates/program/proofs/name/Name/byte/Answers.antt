@@ -1,7 +1,7 @@
-use mathlib.Core.Path.{_≡_, sym, _∙_}
-use Prim.Native.Nat.{_≤_, _<_}
+use mathlib.Core.Path.{sym}
+use Prim.Native.Nat.{_<_}
 use native.Mathlib.Omega.{arith}
-use lib.ListN.{length, length-take}
+use lib.ListN.{length-take}
 use Rattle.std.proofs.shelf.Lists.{getD-take, getD-past}
 use Rattle.program.specs.Names.{spelled}
 use Rattle.program.proofs.name.Name.byte.Needs as need

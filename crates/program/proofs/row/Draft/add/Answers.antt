@@ -21,12 +21,13 @@ returns c =
         count = refl;
         kept = λ k h. getD-set-other acts (n + 1) k (c .args .action) 0 (λ e. omega arith);
         acts = λ k h l.
-          let z : k ≡ 0 = omega arith in
-          let e : n + k + 1 ≡ n + 1 = omega arith in
-          ap (λ v. getD (set acts (n + 1) (c .args .action)) v 0) e ∙ getD-set-same acts (n + 1) (c .args .action) 0 (omega arith) ∙ (let same : c .args .action ≡ getD (c .args .action ∷ []) k 0 % 256 = rw z (omega arith) in same);
-        goes-on = λ m h i l. (λ b. inl b, ⊎-elim (λ b. b) (λ b. absurd b))
+            let z : k ≡ 0 = omega arith in
+            let e : n + k + 1 ≡ n + 1 = omega arith in
+            ap (λ v. getD (set acts (n + 1) (c .args .action)) v 0) e ∙ getD-set-same acts (n + 1) (c .args .action) 0 (omega arith) ∙
+            (let same : c .args .action ≡ getD (c .args .action ∷ []) k 0 % 256 = rw z (omega arith) in same);
+        goes-on = λ m h i l. (λ b. inl b, ⊎-elim (λ b. b) (λ b. absurd b));
       };
       bit = λ i h.
-        let o = bit-one (n + 1) i in
-        (λ b. o .0 (subst (λ v. Bit v i) shl b), λ e. subst (λ v. Bit v i) (sym shl) (o .1 e))
+          let o = bit-one (n + 1) i in
+          (λ b. o .0 (subst (λ v. Bit v i) shl b), λ e. subst (λ v. Bit v i) (sym shl) (o .1 e));
     }
