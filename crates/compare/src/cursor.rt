@@ -8,7 +8,7 @@ ghost use Rattle.std.specs.Vec.{made};
 use crate::stop::Stop;
 
 // Places that a record may ask for.
-pub const MOST_PLACES: usize = 1048576;
+pub const MOST_PLACES: usize = 4194304;
 
 #[derive(Drop)]
 pub struct Cursor<'a> {
@@ -94,7 +94,7 @@ impl<'a> Cursor<'a> {
 
     // A number of places.
     pub fn places(&mut self) -> Result<usize, Stop>
-        ensures { λ r. ⌜ made r (λ n. n ≤ 1048576) ⌝ }
+        ensures { λ r. ⌜ made r (λ n. n ≤ 4194304) ⌝ }
     {
         Ok(self.number_to(MOST_PLACES as u64)? as usize)
     }
@@ -111,9 +111,10 @@ impl<'a> Cursor<'a> {
 
     // A byte string: its length, and then that many bytes and a line feed.
     pub fn bytes(&mut self) -> Result<&'a [u8], Stop>
-        ensures { λ r. ⌜ made r (λ s. length (now s) ≤ 1048576) ⌝ }
+        ensures { λ r. ⌜ made r (λ s. length (now s) < now (self .exit) .at) ⌝ }
     {
-        let len = self.places()?;
+        let most = self.file.len() as u64;
+        let len = self.number_to(most)? as usize;
         let file = self.file;
         let start = self.at;
         if len >= file.len() - start || file[start + len] != b'\n' {

@@ -2,7 +2,7 @@
 ghost use mathlib.Core.Path.{_≡_};
 ghost use Prim.Native.Nat.{ℕ, _+_, _*_, _^_, _<_, _≤_};
 ghost use lib.ListN.{length};
-ghost use Rattle.std.specs.Vec.{made};
+ghost use Rattle.std.specs.Vec.{made, refused};
 use crate::decimal::read_state;
 use crate::step::Step;
 use crate::valid::MOST_STEPS;
@@ -216,7 +216,8 @@ fn fill(declared: &Declared, text: &[u8], steps: &mut [Step]) {
 
 // The lasso that the text spells, in the first steps.
 pub fn scan(document: &Document, text: &[u8], steps: &mut [Step]) -> Result<Scanned, ScanFault>
-    ensures { λ r. ⌜ made r (λ s. (s .stem < s .steps) × (s .steps ≤ 131072) × (s .steps ≤ length (now (steps .entry)))) ⌝ }
+    ensures untouched { λ r. ⌜ refused r (λ _. now (steps .exit) ≡ now (steps .entry)) ⌝ }
+    ensures bounds { λ r. ⌜ made r (λ s. (s .stem < s .steps) × (s .steps ≤ 131072) × (s .steps ≤ length (now (steps .entry)))) ⌝ }
 {
     let declared = document.declared();
     let seen = survey(&declared, text)?;

@@ -2,6 +2,7 @@ pub mod Bits
 pub mod Columns
 pub mod Drafts
 pub mod Ends
+pub mod Examples
 pub mod Factors
 pub mod Glushkov
 pub mod Goes

@@ -6,4 +6,5 @@ pub mod Readers
 pub mod Refusals
 pub mod Served
 pub mod Sessions
+pub mod TextFaults
 pub mod Verdicts

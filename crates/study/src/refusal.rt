@@ -1,6 +1,9 @@
 // Why a call on a study is refused.
 ghost use mathlib.Core.Path.{_≡_};
 ghost use Rattle.study.specs.Refusals.{refusalCode};
+ghost use Rattle.study.specs.TextFaults.{textCode, textLine};
+use document::fault::LineAt;
+use document::fault::LineFault;
 
 #[derive(Clone, Copy, PartialEq, Eq, Debug)]
 pub enum Refusal {
@@ -32,6 +35,34 @@ impl Refusal {
             Refusal::NoStates => 11,
             Refusal::NotLasso => 12,
             Refusal::TextRoom => 13,
+        }
+    }
+}
+
+// Why a lasso text is refused.
+#[derive(Clone, Copy)]
+pub enum TextFault {
+    Refused(Refusal),
+    Line(LineAt),
+}
+
+impl TextFault {
+    pub fn code(self) -> u8
+        ensures { λ r. ⌜ r ≡ textCode self ⌝ }
+    {
+        match self {
+            TextFault::Refused(refusal) => refusal.code(),
+            TextFault::Line(at) => at.fault.code(),
+        }
+    }
+
+    // The line, or 0 where the text as a whole is refused.
+    pub fn line(self) -> usize
+        ensures { λ r. ⌜ r ≡ textLine self ⌝ }
+    {
+        match self {
+            TextFault::Refused(_) => 0,
+            TextFault::Line(at) => at.line,
         }
     }
 }

@@ -1,4 +1,5 @@
 pub mod Bits
+pub mod Examples
 pub mod JointMoves
 pub mod ListedMoves
 pub mod SeenRows
