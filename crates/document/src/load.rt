@@ -2,6 +2,12 @@
 ghost use mathlib.Core.Path.{_≡_};
 ghost use Prim.Native.Nat.{ℕ, _+_, _<_, _≤_};
 ghost use lib.ListN.{length};
+ghost use mathlib.Core.Bool.{true};
+ghost use Rattle.std.specs.Results.{Cases};
+ghost use Rattle.std.specs.Vec.{made, refused};
+ghost use Rattle.std.specs.declared.result.Result.the-variants.{Err};
+ghost use Rattle.document.specs.Faults.{loadLine};
+ghost use Rattle.document.specs.declared.fault.LoadFault.the-variants.{TooLong};
 use crate::declared::Declared;
 use crate::document::Document;
 use crate::fault::LineAt;
@@ -29,7 +35,9 @@ impl Progress {
     }
 
     // After one more line, which ends with a line feed if it is whole.
-    fn with_line(self, line: &[u8], whole: bool) -> Result<Progress, LineFault> {
+    fn with_line(self, line: &[u8], whole: bool) -> Result<Progress, LineFault>
+        ensures { λ r. ⌜ made r (λ _. whole ≡ true) ⌝ }
+    {
         if self.document.is_some() {
             return Err(LineFault::Order);
         }
@@ -52,7 +60,9 @@ impl Progress {
 }
 
 // The same, with a fault's line.
-fn numbered(progress: Progress, line: &[u8], whole: bool, number: usize) -> Result<Progress, LineAt> {
+fn numbered(progress: Progress, line: &[u8], whole: bool, number: usize) -> Result<Progress, LineAt>
+    ensures { λ r. ⌜ Cases r (λ _. whole ≡ true) (λ f. f .line ≡ number) ⌝ }
+{
     match progress.with_line(line, whole) {
         Ok(next) => Ok(next),
         Err(fault) => Err(LineAt {
@@ -63,7 +73,11 @@ fn numbered(progress: Progress, line: &[u8], whole: bool, number: usize) -> Resu
 }
 
 // The document that the text spells, or its first fault.
-pub fn load(text: &[u8]) -> Result<Document, LoadFault> {
+pub fn load(text: &[u8]) -> Result<Document, LoadFault>
+    ensures long { λ r. ⌜ (16384 < length (now (text .entry)) → r ≡ Err TooLong) ⌝ }
+    ensures short { λ r. ⌜ (length (now (text .entry)) ≤ 16384 → r ≡ Err TooLong → ⊥) ⌝ }
+    ensures line { λ r. ⌜ refused r (λ f. loadLine f ≤ length (now (text .entry)) + 1) ⌝ }
+{
     if text.len() > 16384 {
         return Err(LoadFault::TooLong);
     }

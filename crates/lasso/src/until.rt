@@ -1,7 +1,9 @@
 // The states of an until's automaton from which the rest of it is true, at each step of a lasso: a least fixed point.
 ghost use mathlib.Core.Path.{_≡_};
 ghost use Prim.Native.Nat.{ℕ, _+_, _*_, _<_, _≤_};
+ghost use lib.Dec.{ltb};
 ghost use lib.ListN.{length};
+ghost use mathlib.Core.Bool.{cond};
 use crate::step::Step;
 use program::automaton::Automaton;
 
@@ -15,7 +17,8 @@ pub fn bit(word: u64, e: usize) -> bool
 // The step after step i.
 pub fn after(i: usize, len: usize, stem: usize) -> usize
     requires { ⌜ i < len ⌝ ∗ ⌜ stem < len ⌝ }
-    ensures { λ r. ⌜ r < len ⌝ }
+    ensures below { λ r. ⌜ r < len ⌝ }
+    ensures is { λ r. ⌜ r ≡ cond (ltb (i + 1) len) (i + 1) stem ⌝ }
 {
     if i + 1 < len { i + 1 } else { stem }
 }

@@ -4,7 +4,7 @@ ghost use mathlib.Core.Bool.{true};
 ghost use Prim.Native.Nat.{ℕ, _+_, _<_, _≤_};
 ghost use lib.ListN.{length, getD};
 ghost use Rattle.std.specs.Orderings.{Decides};
-ghost use Rattle.study.specs.Sessions.{Goes};
+ghost use Rattle.study.specs.Sessions.{Goes, Step-goes, Session-steps};
 use lasso::step::Step;
 use lasso::until::after;
 use system::system::System;
@@ -24,7 +24,9 @@ fn has_move<S: System>(system: S, state: usize, action: u8, target: usize) -> bo
 }
 
 // Whether a step shows its state's marks among the declared ones, and goes along a move to the next state.
-fn step_goes<S: System>(system: S, declared: u16, step: Step, next: u16) -> bool {
+fn step_goes<S: System>(system: S, declared: u16, step: Step, next: u16) -> bool
+    ensures { λ r. ⌜ Decides r (Step-goes (meaning system) declared step next) ⌝ }
+{
     let state = step.state as usize;
     step.marks == system.marks(state) & declared
         && has_move(system, state, step.action, next as usize)
@@ -33,6 +35,7 @@ fn step_goes<S: System>(system: S, declared: u16, step: Step, next: u16) -> bool
 // Whether the lasso is a session of the system.
 pub fn is_session<S: System>(system: S, declared: u16, steps: &[Step], stem: usize) -> bool
     requires { ⌜ stem < length (now steps) ⌝ }
+    ensures { λ r. ⌜ Decides r (Session-steps (meaning system) declared (now (steps .entry)) stem) ⌝ }
 {
     if !system.starts(steps[0].state as usize) {
         return false;

@@ -3,6 +3,8 @@ ghost use mathlib.Core.Path.{_≡_};
 ghost use Prim.Native.Nat.{ℕ, _+_, _<_, _≤_};
 ghost use lib.ListN.{length};
 ghost use Rattle.std.specs.Options.{Cases};
+ghost use Rattle.std.specs.Orderings.{Decides};
+ghost use Rattle.tableau.specs.Nodes.{SameNode, nodeAt, edgeAt};
 use crate::claims::ClaimSet;
 
 // Places of the tables that are used at most.
@@ -39,7 +41,9 @@ impl Node {
     }
 
     // Whether the two are the same node of the graph.
-    pub fn same(&self, other: &Node) -> bool {
+    pub fn same(&self, other: &Node) -> bool
+        ensures { λ r. ⌜ Decides r (SameNode (now (self .entry)) (now (other .entry))) ⌝ }
+    {
         self.action == other.action
             && self.phase == other.phase
             && self.closing == other.closing
@@ -70,7 +74,7 @@ pub struct Used {
 // The number of the node among the first `count`.
 pub fn find_node(nodes: &[Node], count: usize, node: &Node) -> Option<usize>
     requires { ⌜ count ≤ length (now nodes) ⌝ }
-    ensures { λ r. ⌜ Cases r (Unit {0}) (λ i. i < count) ⌝ }
+    ensures { λ r. ⌜ Cases r ((k : ℕ) → k < count → SameNode (nodeAt (now (nodes .entry)) k) (now (node .entry)) → ⊥) (λ i. (i < count) × SameNode (nodeAt (now (nodes .entry)) i) (now (node .entry))) ⌝ }
 {
     for i in 0..count {
         if nodes[i].same(node) {
@@ -83,6 +87,7 @@ pub fn find_node(nodes: &[Node], count: usize, node: &Node) -> Option<usize>
 // Whether one of the edges from place `first` on, below `count`, leads to the node.
 pub fn has_edge_to(edges: &[Edge], first: usize, count: usize, to: u16) -> bool
     requires { ⌜ count ≤ length (now edges) ⌝ }
+    ensures { λ r. ⌜ Decides r ((k : ℕ) × (first ≤ k) × (k < count) × (edgeAt (now (edges .entry)) k .to ≡ to)) ⌝ }
 {
     for i in first..count {
         if edges[i].to == to {

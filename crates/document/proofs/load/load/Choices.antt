@@ -3,7 +3,7 @@ use lib.ListN.{length}
 use Rattle.document.proofs.load.load.Given as given
 
 abbrev pub Inv-loop-at : given.InvT-loop-at
-Inv-loop-at l = (l .number ≤ l .at + 1) × (l .at ≤ length (l .text) + 1)
+Inv-loop-at l = (l .number ≤ l .at + 1) × (l .at ≤ length (l .text))
 
 abbrev pub μ-loop-at : given.MeasureT-loop-at
 μ-loop-at l = length (l .text) - l .at
