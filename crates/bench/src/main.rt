@@ -7,6 +7,7 @@ mod meter;
 mod searching;
 mod texts;
 mod wheel;
+
 use crate::meter::Meter;
 use std::env;
 use std::error::AnyError;

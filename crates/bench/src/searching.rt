@@ -54,7 +54,7 @@ fn examine<S: System>(meter: &mut Meter, text: &[u8], system: S) -> Result<(), A
 
 // Pairs of 16 nodes and up to 4,096 states of a wheel, with four slots each.
 pub fn computed(meter: &mut Meter) -> Result<(), AnyError> {
-    let text = vain(meter.heap(), &["act a"])?;
+    let text = vain(meter.heap(), "act\ta\n")?;
     meter.series("searching a computed system: pairs")?;
     let first = if meter.is_timed() { 128 } else { 1 };
     for scale in [1, 2, 4, 8] {
@@ -101,10 +101,10 @@ fn listed_series(meter: &mut Meter, text: &[u8]) -> Result<(), AnyError> {
 
 // Pairs of 16 and of 64 nodes and the states of listed wheels.
 pub fn listed(meter: &mut Meter) -> Result<(), AnyError> {
-    let one = vain(meter.heap(), &["act a"])?;
+    let one = vain(meter.heap(), "act\ta\n")?;
     meter.series("searching a listed system with 16 nodes: pairs")?;
     listed_series(meter, one.as_bytes())?;
-    let four = vain(meter.heap(), &["act a", "act b", "act c", "act d"])?;
+    let four = vain(meter.heap(), "act\ta\nact\tb\nact\tc\nact\td\n")?;
     meter.series("searching a listed system with 64 nodes: pairs")?;
     listed_series(meter, four.as_bytes())
 }

@@ -1,88 +1,53 @@
 // The documents of the series.
 use std::alloc::Global;
 use std::error::AnyError;
+use std::fmt::Write;
 
-// Lines whose fields are parted by spaces here, with tabs for these.
-pub fn lines(heap: Global, rows: &[&str]) -> Result<String, AnyError> {
-    let mut text = String::new(heap);
-    for row in rows {
-        add_row(&mut text, row)?;
-    }
+// One until whose promise is never kept, over a program of fifteen steps: a goal of 16 nodes for each of the actions
+// declared in `acts`, and no lasso.
+pub fn vain(heap: Global, acts: &str) -> Result<String, AnyError> {
+    let mut text = String::from_str(heap, acts)?;
+    text.push_str("prog\tx\t(a;a;a;a;a;a;a;a;a;a;a;a;a;a;a)*\n")?;
+    text.push_str("form\tt\ttrue\nform\tn\tnot\tt\nform\tu\tuntil\tt\tx\tn\ngoal\tu\n")?;
     Ok(text)
 }
 
-// Adds one such line.
-pub fn add_row(text: &mut String, row: &str) -> Result<(), AnyError> {
-    for c in row.chars() {
-        text.push(if c == ' ' { '\t' } else { c })?;
+// Adds the forms f1 to f57, each over the one before it.
+fn add_forms(text: &mut String) -> Result<(), AnyError> {
+    for k in 1..58u8 {
+        let last = k - 1;
+        match k % 4 {
+            0 => writeln!(text, "form\tf{k}\tand\tf{last}\tu0")?,
+            1 => writeln!(text, "form\tf{k}\tor\tf{last}\tu1")?,
+            2 => writeln!(text, "form\tf{k}\tnot\tf{last}")?,
+            _ => writeln!(text, "form\tf{k}\tnext\tb\tf{last}")?,
+        }
     }
-    text.push('\n')?;
     Ok(())
-}
-
-// One until whose promise is never kept, over a program of fifteen steps: a goal of 16 nodes with an edge each, and no
-// lasso. Each action more doubles, triples .. the nodes.
-pub fn vain(heap: Global, acts: &[&str]) -> Result<String, AnyError> {
-    let mut text = lines(heap, acts)?;
-    let rest = lines(
-        heap,
-        &[
-            "prog x (a;a;a;a;a;a;a;a;a;a;a;a;a;a;a)*",
-            "form t true",
-            "form n not t",
-            "form u until t x n",
-            "goal u",
-        ],
-    )?;
-    text.push_str(rest.as_str())?;
-    Ok(text)
 }
 
 // 64 forms, four of them untils that go round a loop up to three times.
 pub fn full(heap: Global) -> Result<String, AnyError> {
-    let mut text = lines(
-        heap,
-        &[
-            "act b",
-            "act c",
-            "prop p",
-            "prog x0 b*;c;b*",
-            "prog x1 b*;c;b*;c;b*",
-            "prog x2 b*;c;b*;c;b*;c",
-            "prog x3 b*;c;b*;c",
-            "form t true",
-            "form p prop p",
-            "form u0 until t x0 p",
-            "form u1 until t x1 p",
-            "form u2 until t x2 p",
-            "form u3 until t x3 p",
-            "form f0 and u1 u3",
-        ],
-    )?;
-    for k in 1..58u8 {
-        let last = k - 1;
-        let until = k % 4;
-        let row = match k % 4 {
-            0 => format!(heap, "form f{k} and f{last} u{until}")?,
-            1 => format!(heap, "form f{k} or f{last} u{until}")?,
-            2 => format!(heap, "form f{k} not f{last}")?,
-            _ => format!(heap, "form f{k} next b f{last}")?,
-        };
-        add_row(&mut text, row.as_str())?;
-    }
-    add_row(&mut text, "goal f57")?;
+    let mut text = String::from_str(heap, "act\tb\nact\tc\nprop\tp\n")?;
+    text.push_str("prog\tx0\tb*;c;b*\nprog\tx1\tb*;c;b*;c;b*\n")?;
+    text.push_str("prog\tx2\tb*;c;b*;c;b*;c\nprog\tx3\tb*;c;b*;c\n")?;
+    text.push_str("form\tt\ttrue\nform\tp\tprop\tp\n")?;
+    text.push_str("form\tu0\tuntil\tt\tx0\tp\nform\tu1\tuntil\tt\tx1\tp\n")?;
+    text.push_str("form\tu2\tuntil\tt\tx2\tp\nform\tu3\tuntil\tt\tx3\tp\n")?;
+    text.push_str("form\tf0\tand\tu1\tu3\n")?;
+    add_forms(&mut text)?;
+    text.push_str("goal\tf57\n")?;
     Ok(text)
 }
 
 // Adds forms whose last has `count` expansions: an or of true forms. Their names begin with `name`.
-fn add_choice(heap: Global, text: &mut String, name: &str, count: u8) -> Result<(), AnyError> {
-    for i in 0..count {
-        add_row(text, format!(heap, "form {name}{i} true")?.as_str())?;
-    }
-    add_row(text, format!(heap, "form {name}o0 or {name}0 {name}0")?.as_str())?;
+fn add_choice(text: &mut String, name: char, count: u8) -> Result<(), AnyError> {
+    writeln!(text, "form\t{name}0\ttrue")?;
+    writeln!(text, "form\t{name}o0\tor\t{name}0\t{name}0")?;
     for i in 1..count {
         let last = i - 1;
-        add_row(text, format!(heap, "form {name}o{i} or {name}{i} {name}o{last}")?.as_str())?;
+        writeln!(text, "form\t{name}{i}\ttrue")?;
+        writeln!(text, "form\t{name}o{i}\tor\t{name}{i}\t{name}o{last}")?;
     }
     Ok(())
 }
@@ -91,55 +56,70 @@ fn add_choice(heap: Global, text: &mut String, name: &str, count: u8) -> Result<
 pub fn wide(heap: Global, last: u8) -> Result<String, AnyError> {
     let mut text = String::new(heap);
     for a in 0..16u8 {
-        add_row(&mut text, format!(heap, "act a{a}")?.as_str())?;
+        writeln!(text, "act\ta{a}")?;
     }
-    add_choice(heap, &mut text, "b", 7)?;
-    add_choice(heap, &mut text, "c", 6)?;
-    add_choice(heap, &mut text, "d", last)?;
+    add_choice(&mut text, 'b', 7)?;
+    add_choice(&mut text, 'c', 6)?;
+    add_choice(&mut text, 'd', last)?;
     let end = last.saturating_sub(1);
-    add_row(&mut text, "form x and bo6 co5")?;
-    add_row(&mut text, format!(heap, "form y and x do{end}")?.as_str())?;
-    add_row(&mut text, "goal y")?;
+    writeln!(
+        text,
+        "form\tx\tand\tbo6\tco5\nform\ty\tand\tx\tdo{end}\ngoal\ty"
+    )?;
     Ok(text)
 }
 
 // `count` untils that are all promised at once.
 pub fn promises(heap: Global, count: u8) -> Result<String, AnyError> {
-    let mut text = lines(heap, &["act a", "prog x a*", "form t true", "form g0 or t t"])?;
+    let mut text = String::from_str(
+        heap,
+        "act\ta\nprog\tx\ta*\nform\tt\ttrue\nform\tg0\tor\tt\tt\n",
+    )?;
     for i in 0..count {
         let next = i.saturating_add(1);
-        add_row(&mut text, format!(heap, "prop p{i}")?.as_str())?;
-        add_row(&mut text, format!(heap, "form f{i} prop p{i}")?.as_str())?;
-        add_row(&mut text, format!(heap, "form u{i} until t x f{i}")?.as_str())?;
-        add_row(&mut text, format!(heap, "form g{next} and g{i} u{i}")?.as_str())?;
+        writeln!(text, "prop\tp{i}\nform\tf{i}\tprop\tp{i}")?;
+        writeln!(
+            text,
+            "form\tu{i}\tuntil\tt\tx\tf{i}\nform\tg{next}\tand\tg{i}\tu{i}"
+        )?;
     }
-    add_row(&mut text, format!(heap, "goal g{count}")?.as_str())?;
+    writeln!(text, "goal\tg{count}")?;
     Ok(text)
 }
 
-// A text of `size` bytes, or as many as its lines have without: 16 actions, propositions and programs, and 64 forms. The
-// stars of the programs fill it up.
-pub fn filled(heap: Global, size: usize) -> Result<String, AnyError> {
-    let mut head = String::new(heap);
-    let mut tail = lines(heap, &["form f0 true"])?;
-    for i in 0..16u8 {
-        add_row(&mut head, format!(heap, "act a{i}")?.as_str())?;
-        add_row(&mut head, format!(heap, "prop p{i}")?.as_str())?;
+// Adds a program of `len` bytes, if its line takes no more: stars fill it up.
+fn add_program(text: &mut String, i: u8, len: usize) -> Result<(), AnyError> {
+    let end = text.len().saturating_add(len);
+    write!(text, "prog\tx{i}\ta{i}")?;
+    for _ in text.len().saturating_add(1)..end {
+        text.push('*')?;
     }
+    text.push('\n')?;
+    Ok(())
+}
+
+// 64 forms in a row.
+fn row_of_forms(heap: Global) -> Result<String, AnyError> {
+    let mut text = String::from_str(heap, "form\tf0\ttrue\n")?;
     for i in 1..64u8 {
         let last = i - 1;
-        add_row(&mut tail, format!(heap, "form f{i} not f{last}")?.as_str())?;
+        writeln!(text, "form\tf{i}\tnot\tf{last}")?;
     }
-    add_row(&mut tail, "goal f63")?;
+    text.push_str("goal\tf63\n")?;
+    Ok(text)
+}
+
+// A text of `size` bytes, if its lines take no more: 16 actions, propositions and programs, and 64 forms.
+pub fn filled(heap: Global, size: usize) -> Result<String, AnyError> {
+    let forms = row_of_forms(heap)?;
+    let mut text = String::new(heap);
     for i in 0..16u8 {
-        let left = size.saturating_sub(head.len()).saturating_sub(tail.len());
-        let share = left / usize::from(16 - i);
-        let mut row = format!(heap, "prog x{i} a{i}")?;
-        for _ in row.len().saturating_add(1)..share {
-            row.push('*')?;
-        }
-        add_row(&mut head, row.as_str())?;
+        writeln!(text, "act\ta{i}\nprop\tp{i}")?;
     }
-    head.push_str(tail.as_str())?;
-    Ok(head)
+    for i in 0..16u8 {
+        let left = size.saturating_sub(text.len()).saturating_sub(forms.len());
+        add_program(&mut text, i, left / usize::from(16 - i))?;
+    }
+    text.push_str(forms.as_str())?;
+    Ok(text)
 }

@@ -24,7 +24,11 @@ fn next_group(groups: usize, state: usize) -> usize
     requires { ⌜ state < 4096 ⌝ }
     ensures { λ r. ⌜ r ≡ next-of groups state ⌝ ∗ ⌜ r ≤ 4096 ⌝ }
 {
-    if state / 4 + 1 < groups { 4 * (state / 4 + 1) } else { 0 }
+    if state / 4 + 1 < groups {
+        4 * (state / 4 + 1)
+    } else {
+        0
+    }
 }
 
 pub impl System for Wheel as WheelSystem {

@@ -39,15 +39,29 @@ pub enum Settled {
 pub enum Answer {
     Loaded(Counts),
     // A document is refused; with a line alone, and with a column.
-    BadLine { code: u8, line: usize },
-    BadColumn { code: u8, line: usize, column: usize },
+    BadLine {
+        code: u8,
+        line: usize,
+    },
+    BadColumn {
+        code: u8,
+        line: usize,
+        column: usize,
+    },
     // A call is refused.
     Refused(Refusal),
-    Settled { how: Settled, used: Used },
+    Settled {
+        how: Settled,
+        used: Used,
+    },
     Grown(Vec<Progress>),
     Judged(bool),
     // A lasso text was read; `same` if printing gives it again.
-    Scanned { steps: usize, stem: usize, same: bool },
+    Scanned {
+        steps: usize,
+        stem: usize,
+        same: bool,
+    },
     // The text of a lasso, with spaces for tabs and bars for line feeds.
     Printed(String),
 }
@@ -91,7 +105,13 @@ fn reported(report: Report) -> &'static str {
 
 pub impl fmt::Display for Counts as CountsDisplay {
     fn fmt<W: fmt::Write>(&self, f: &mut fmt::Formatter<W>) -> fmt::Result {
-        let Counts { acts, props, progs, forms, weight } = *self;
+        let Counts {
+            acts,
+            props,
+            progs,
+            forms,
+            weight,
+        } = *self;
         write!(f, "ok {acts} {props} {progs} {forms} {weight}")
     }
 }

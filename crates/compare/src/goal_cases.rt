@@ -43,7 +43,12 @@ pub fn load(cursor: &mut Cursor) -> Result<Answer, Stop> {
 }
 
 // Whether the judge says yes to the lasso.
-fn is_confirmed(heap: Global, study: &Study, lasso: &[Step], stem: usize) -> Result<bool, AllocError> {
+fn is_confirmed(
+    heap: Global,
+    study: &Study,
+    lasso: &[Step],
+    stem: usize,
+) -> Result<bool, AllocError> {
     let mut work = vec![in heap; 0u64; lasso.len().saturating_mul(4)]?;
     Ok(matches!(study.judge(lasso, stem, &mut work), Ok(true)))
 }
@@ -57,7 +62,8 @@ fn decided(heap: Global, study: &Study) -> Result<Answer, AllocError> {
         Err(refusal) => return Ok(Answer::Refused(refusal)),
         Ok(Verdict::None) => Settled::None,
         Ok(Verdict::Found { steps: count, stem }) => {
-            let confirmed = count <= steps.len() && is_confirmed(heap, study, &steps[0..count], stem)?;
+            let confirmed = count <= steps.len()
+                && is_confirmed(heap, study, &steps[0..count], stem)?;
             Settled::Found { confirmed }
         }
     };

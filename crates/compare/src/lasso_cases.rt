@@ -8,8 +8,8 @@ use crate::tables::read_steps;
 use lasso::step::Step;
 use std::alloc::AllocError;
 use std::alloc::Global;
+use study::refusal::TextFault;
 use study::study::Study;
-use study::study::calls::TextFault;
 
 pub fn judge(heap: Global, cursor: &mut Cursor) -> Result<Answer, Stop> {
     let stem = cursor.places()?;
@@ -25,25 +25,27 @@ pub fn judge(heap: Global, cursor: &mut Cursor) -> Result<Answer, Stop> {
 }
 
 fn refused_text(fault: TextFault) -> Answer {
-    match fault {
-        TextFault::Refused(refusal) => Answer::BadLine {
-            code: refusal.code(),
-            line: 0,
-        },
-        TextFault::Line(at) => Answer::BadLine {
-            code: at.fault.code(),
-            line: at.line,
-        },
+    Answer::BadLine {
+        code: fault.code(),
+        line: fault.line(),
     }
 }
 
 // Whether printing the lasso gives the text.
-fn prints_as(heap: Global, study: &Study, lasso: &[Step], stem: usize, text: &[u8]) -> Result<bool, AllocError> {
+fn prints_as(
+    heap: Global,
+    study: &Study,
+    lasso: &[Step],
+    stem: usize,
+    text: &[u8],
+) -> Result<bool, AllocError> {
     let mut again = vec![in heap; 0u8; text.len()]?;
-    Ok(match study.print(lasso, stem, &mut again) {
-        Ok(len) => len == text.len() && again.as_slice() == text,
-        Err(_) => false,
-    })
+    Ok(
+        match study.print(lasso, stem, &mut again) {
+            Ok(len) => len == text.len() && again.as_slice() == text,
+            Err(_) => false,
+        },
+    )
 }
 
 pub fn scan(heap: Global, cursor: &mut Cursor) -> Result<Answer, Stop> {
@@ -55,7 +57,8 @@ pub fn scan(heap: Global, cursor: &mut Cursor) -> Result<Answer, Stop> {
     match study.scan(lines, &mut steps) {
         Err(fault) => Ok(refused_text(fault)),
         Ok(read) => {
-            let same = read.steps <= steps.len() && prints_as(heap, &study, &steps[0..read.steps], read.stem, lines)?;
+            let same = read.steps <= steps.len()
+                && prints_as(heap, &study, &steps[0..read.steps], read.stem, lines)?;
             Ok(Answer::Scanned {
                 steps: read.steps,
                 stem: read.stem,
@@ -69,11 +72,13 @@ pub fn scan(heap: Global, cursor: &mut Cursor) -> Result<Answer, Stop> {
 fn shown(heap: Global, text: &[u8]) -> Result<String, AllocError> {
     let mut all = String::new(heap);
     for byte in text {
-        all.push(match *byte {
-            b'\t' => ' ',
-            b'\n' => '|',
-            other => char::from(other),
-        })?;
+        all.push(
+            match *byte {
+                b'\t' => ' ',
+                b'\n' => '|',
+                other => char::from(other),
+            },
+        )?;
     }
     Ok(all)
 }

@@ -7,6 +7,7 @@ mod lasso_cases;
 mod stop;
 mod system_cases;
 mod tables;
+
 use crate::answer::AnswerDisplay;
 use crate::cases::case;
 use crate::cursor::Cursor;

@@ -20,7 +20,13 @@ use system::system::System;
 use tableau::node::Edge;
 use tableau::node::Node;
 
-fn audited<S: System>(study: &Study, system: S, steps: &[Step], stem: usize, work: &mut [u64]) -> Answer {
+fn audited<S: System>(
+    study: &Study,
+    system: S,
+    steps: &[Step],
+    stem: usize,
+    work: &mut [u64],
+) -> Answer {
     match study.audit(system, steps, stem, work) {
         Ok(judged) => Answer::Judged(judged),
         Err(refusal) => Answer::Refused(refusal),
@@ -39,12 +45,26 @@ pub fn audit(heap: Global, cursor: &mut Cursor) -> Result<Answer, Stop> {
     let a = parts.a.listed();
     let b = parts.b.listed();
     let c = parts.c.listed();
-    Ok(match shape {
-        Shape::One => audited(&study, a, &steps, stem, &mut work),
-        Shape::Two => audited(&study, Joint::new(a, b), &steps, stem, &mut work),
-        Shape::LeftFirst => audited(&study, Joint::new(Joint::new(a, b), c), &steps, stem, &mut work),
-        Shape::RightFirst => audited(&study, Joint::new(a, Joint::new(b, c)), &steps, stem, &mut work),
-    })
+    Ok(
+        match shape {
+            Shape::One => audited(&study, a, &steps, stem, &mut work),
+            Shape::Two => audited(&study, Joint::new(a, b), &steps, stem, &mut work),
+            Shape::LeftFirst => audited(
+                &study,
+                Joint::new(Joint::new(a, b), c),
+                &steps,
+                stem,
+                &mut work,
+            ),
+            Shape::RightFirst => audited(
+                &study,
+                Joint::new(a, Joint::new(b, c)),
+                &steps,
+                stem,
+                &mut work,
+            ),
+        },
+    )
 }
 
 // Whether the audit says yes to the lasso.
@@ -72,7 +92,8 @@ fn examined<S: System>(
         Err(refusal) => return Ok(Answer::Refused(refusal)),
         Ok(Verdict::None) => Settled::None,
         Ok(Verdict::Found { steps: count, stem }) => {
-            let confirmed = count <= steps.len() && is_confirmed(heap, study, system, &steps[0..count], stem)?;
+            let confirmed = count <= steps.len()
+                && is_confirmed(heap, study, system, &steps[0..count], stem)?;
             Settled::Found { confirmed }
         }
     };
@@ -93,10 +114,24 @@ pub fn examine(heap: Global, cursor: &mut Cursor) -> Result<Answer, Stop> {
     let a = parts.a.listed();
     let b = parts.b.listed();
     let c = parts.c.listed();
-    Ok(match shape {
-        Shape::One => examined(heap, &study, a, &mut work, &mut steps)?,
-        Shape::Two => examined(heap, &study, Joint::new(a, b), &mut work, &mut steps)?,
-        Shape::LeftFirst => examined(heap, &study, Joint::new(Joint::new(a, b), c), &mut work, &mut steps)?,
-        Shape::RightFirst => examined(heap, &study, Joint::new(a, Joint::new(b, c)), &mut work, &mut steps)?,
-    })
+    Ok(
+        match shape {
+            Shape::One => examined(heap, &study, a, &mut work, &mut steps)?,
+            Shape::Two => examined(heap, &study, Joint::new(a, b), &mut work, &mut steps)?,
+            Shape::LeftFirst => examined(
+                heap,
+                &study,
+                Joint::new(Joint::new(a, b), c),
+                &mut work,
+                &mut steps,
+            )?,
+            Shape::RightFirst => examined(
+                heap,
+                &study,
+                Joint::new(a, Joint::new(b, c)),
+                &mut work,
+                &mut steps,
+            )?,
+        },
+    )
 }

@@ -136,8 +136,16 @@ impl Parts {
     pub fn read(heap: Global, cursor: &mut Cursor) -> Result<Parts, Stop> {
         let shape = read_shape(cursor)?;
         let a = Table::read(heap, cursor)?;
-        let b = if has_b(shape) { Table::read(heap, cursor)? } else { Table::empty(heap) };
-        let c = if has_c(shape) { Table::read(heap, cursor)? } else { Table::empty(heap) };
+        let b = if has_b(shape) {
+            Table::read(heap, cursor)?
+        } else {
+            Table::empty(heap)
+        };
+        let c = if has_c(shape) {
+            Table::read(heap, cursor)?
+        } else {
+            Table::empty(heap)
+        };
         Ok(Parts { shape, a, b, c })
     }
 }

@@ -1,1 +1,12 @@
+pub mod Alike
+pub mod Decided
 pub mod Examples
+pub mod Finite
+pub mod Holds
+pub mod Meetings
+pub mod Places
+pub mod Reached
+pub mod Rests
+pub mod Rounds
+pub mod Subsets
+pub mod Truths

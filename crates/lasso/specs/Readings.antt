@@ -3,7 +3,7 @@ use mathlib.Core.Path.{_≡_}
 use mathlib.Core.List.{List, [], _∷_}
 use mathlib.Core.Logic.{_⊎_}
 use mathlib.Core.Bool.{Bool, true, false, cond}
-use Prim.Native.Nat.{ℕ, zero, suc, _+_, _-_, _%_, _<_, _≤_}
+use Prim.Native.Nat.{ℕ, zero, suc, _+_, _-_, _%_, _<_}
 use lib.Dec.{ltb}
 use lib.ListN.{length, getD}
 use Rattle.program.specs.Words.{Words}
@@ -41,9 +41,12 @@ pub record Lasso : Type 0 where
   pub stem : ℕ
   pub short : stem < length steps
 
--- where step i of a lasso, read onward, stands in its list
+-- where step i, read onward, stands in a list of n steps with this stem
+abbrev pub place-of : ℕ → ℕ → ℕ → ℕ
+place-of n stem i = cond (ltb i n) i (stem + (i - stem) % (n - stem))
+
 abbrev pub place : Lasso → ℕ → ℕ
-place l i = cond (ltb i (length (l .steps))) i (l .stem + (i - l .stem) % (length (l .steps) - l .stem))
+place l i = place-of (length (l .steps)) (l .stem) i
 
 -- the reading of a lasso; the first argument stands where there is no step, which is nowhere
 abbrev pub read : Moment → Lasso → Reading

@@ -4,5 +4,7 @@ pub mod judge;
 pub mod print;
 pub mod scan;
 pub mod step;
+#[cfg(test)]
+mod tests;
 pub mod until;
 pub mod valid;

@@ -3,7 +3,8 @@ use mathlib.Core.Path.{_≡_, refl, sym, subst}
 use native.Mathlib.Omega.{arith}
 use lib.ListN.{length}
 use Rattle.lasso.specs.Lassos.{stepAt}
-use Rattle.study.specs.Sessions.{Step-goes, next-place}
+use Rattle.lasso.specs.Rounds.{next-place}
+use Rattle.study.specs.Sessions.{Step-goes}
 use Rattle.study.proofs.audit.is_session.Needs as need
 
 pub loop-i-again : need.loop-i-again

@@ -1,7 +1,8 @@
 use Prim.Native.Nat.{ℕ, _<_}
 use lib.ListN.{length}
 use Rattle.lasso.specs.Lassos.{stepAt}
-use Rattle.study.specs.Sessions.{Step-goes, next-place}
+use Rattle.lasso.specs.Rounds.{next-place}
+use Rattle.study.specs.Sessions.{Step-goes}
 use Rattle.study.proofs.audit.is_session.Given as given
 
 abbrev pub Inv-loop-i : given.InvT-loop-i
