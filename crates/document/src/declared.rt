@@ -82,7 +82,11 @@ impl Declared {
         ensures is { λ r. ⌜ (e < now (self .entry) .forms .count → r ≡ formAt (now (self .entry) .lines) e) ⌝ }
         ensures earlier { λ r. ⌜ Earlier 16 16 16 e r ⌝ }
     {
-        if e < self.forms.count() { self.lines[e] } else { Form::True }
+        if e < self.forms.count() {
+            self.lines[e]
+        } else {
+            Form::True
+        }
     }
 
     // The row of a program.

@@ -46,7 +46,11 @@ impl Names {
 
     // The name of a number below the count.
     pub fn at(&self, i: usize) -> Name {
-        if i < self.count { self.list[i] } else { Name::blank() }
+        if i < self.count {
+            self.list[i]
+        } else {
+            Name::blank()
+        }
     }
 
     // With one name more.

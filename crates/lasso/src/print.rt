@@ -49,7 +49,11 @@ fn put_digit(text: &mut [u8], at: usize, digit: u16, shown: bool) -> usize
     requires { ⌜ at < 2 ^ 39 ⌝ ∗ ⌜ digit < 10 ⌝ }
     ensures { λ r. ⌜ (at ≤ r) × (r ≤ at + 1) ⌝ }
 {
-    if shown { put(text, at, b'0' + digit as u8) } else { at }
+    if shown {
+        put(text, at, b'0' + digit as u8)
+    } else {
+        at
+    }
 }
 
 // A state in decimal, without leading zeros.
@@ -78,7 +82,11 @@ fn put_marks(text: &mut [u8], at: usize, props: &Names, marks: u16) -> usize
             next = put_name(text, next, props.at(p));
         }
     }
-    if next == at { put(text, at, b'-') } else { next }
+    if next == at {
+        put(text, at, b'-')
+    } else {
+        next
+    }
 }
 
 // The line of one step.

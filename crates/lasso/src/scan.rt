@@ -165,7 +165,12 @@ impl Tally {
 }
 
 // The step of a line that ends with a line feed if it is whole, or its fault with the line's number.
-fn numbered(declared: &Declared, line: &[u8], whole: bool, number: usize) -> Result<StepLine, LineAt> {
+fn numbered(
+    declared: &Declared,
+    line: &[u8],
+    whole: bool,
+    number: usize,
+) -> Result<StepLine, LineAt> {
     if !whole {
         return Err(LineAt {
             line: number,

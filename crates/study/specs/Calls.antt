@@ -64,9 +64,10 @@ None-left k t = k ≡ suc (length (t .nodes))
 
 abbrev pub Reports : Places → Document → ℕ → Tables → ℕ → Growth → Type 0
 Reports p d k u b g = elim (g .report) [
-    complete ↦ None-left k u
+  | complete ↦ None-left k u
   | full ↦ (None-left k u → ⊥) × (g .units < b) × ((v : Tables) → Unit-of d k u v → Fits p v → ⊥)
-  | more ↦ (None-left k u → ⊥) × (g .units ≡ b) ]
+  | more ↦ (None-left k u → ⊥) × (g .units ≡ b)
+]
 
 pub record Grows (p : Places) (d : Document) (k : ℕ) (t : Tables) (b : ℕ) (g : Growth) (u : Tables) : Type 0 where
   pub worked : Units d k (g .units) t u
@@ -90,7 +91,7 @@ Does-decide (loaded d k t) w v r =
     ((None-left k t → ⊥) × (r ≡ refused 8))
     ⊎ (None-left k t × ((w < 4 * length (t .nodes)) ⊎ (v < 2 * length (t .nodes))) × (r ≡ refused 9))
     ⊎ (None-left k t × (4 * length (t .nodes) ≤ w) × (2 * length (t .nodes) ≤ v)
-       × Decides (λ l. Lasso-of d l × Meets d l) (length (t .nodes)) r)
+    × Decides (λ l. Lasso-of d l × Meets d l) (length (t .nodes)) r)
 
 -- examine, of a system
 abbrev pub Does-examine : Study → TransitionGraph → ℕ → ℕ → Answer Verdict → Type 0
@@ -100,10 +101,10 @@ Does-examine (loaded d k t) g w v r =
     ⊎ (None-left k t × (g .count ≡ 0) × (r ≡ refused 11))
     ⊎ (None-left k t × (0 < g .count) × (65536 < length (t .nodes) * g .count) × (r ≡ refused 10))
     ⊎ (None-left k t × (0 < g .count) × (length (t .nodes) * g .count ≤ 65536)
-       × ((w < 4 * (length (t .nodes) * g .count)) ⊎ (v < 2 * (length (t .nodes) * g .count))) × (r ≡ refused 9))
+    × ((w < 4 * (length (t .nodes) * g .count)) ⊎ (v < 2 * (length (t .nodes) * g .count))) × (r ≡ refused 9))
     ⊎ (None-left k t × (0 < g .count) × (length (t .nodes) * g .count ≤ 65536)
-       × (4 * (length (t .nodes) * g .count) ≤ w) × (2 * (length (t .nodes) * g .count) ≤ v)
-       × Decides (λ l. Lasso-of d l × Meets d l × Session d g l) (length (t .nodes) * g .count) r)
+    × (4 * (length (t .nodes) * g .count) ≤ w) × (2 * (length (t .nodes) * g .count) ≤ v)
+    × Decides (λ l. Lasso-of d l × Meets d l × Session d g l) (length (t .nodes) * g .count) r)
 
 abbrev pub Yes-exactly : Type 0 → Answer Bool → Type 0
 Yes-exactly P (refused c) = ⊥
@@ -124,7 +125,7 @@ Does-judge (loaded d k t) h w r =
     ((Served d h → ⊥) × (r ≡ refused 12))
     ⊎ (Served d h × (w < 4 * length (h .steps)) × (r ≡ refused 9))
     ⊎ ((y : Served d h) × (4 * length (h .steps) ≤ w)
-       × Yes-exactly (Meets d (record { steps = h .steps; stem = h .stem; short = y .0 })) r)
+    × Yes-exactly (Meets d (record { steps = h .steps; stem = h .stem; short = y .0 })) r)
 
 abbrev pub Does-audit : Study → TransitionGraph → Handed → ℕ → Answer Bool → Type 0
 Does-audit blank g h w r = r ≡ refused 7
@@ -133,7 +134,7 @@ Does-audit (loaded d k t) g h w r =
     ⊎ (Served d h × (g .count ≡ 0) × (r ≡ refused 11))
     ⊎ (Served d h × (0 < g .count) × (w < 4 * length (h .steps)) × (r ≡ refused 9))
     ⊎ ((y : Served d h) × (0 < g .count) × (4 * length (h .steps) ≤ w)
-       × Yes-exactly (Meets d (record { steps = h .steps; stem = h .stem; short = y .0 }) × Session d g (record { steps = h .steps; stem = h .stem; short = y .0 })) r)
+    × Yes-exactly (Meets d (record { steps = h .steps; stem = h .stem; short = y .0 }) × Session d g (record { steps = h .steps; stem = h .stem; short = y .0 })) r)
 
 -- a call with what it was handed and what it answered
 pub data Event : Type 0 where

@@ -41,7 +41,10 @@ pub fn number(declared: &Declared, claim: Claim) -> u8 {
     let (e, place) = match claim {
         Claim::True(e) => (e, 0),
         Claim::False(e) => (e, 1),
-        Claim::TrueUntil(e, q, label) => (e, in_run(declared, e, if label == 0 { 0 } else { 1 }, q)),
+        Claim::TrueUntil(e, q, label) => (
+            e,
+            in_run(declared, e, if label == 0 { 0 } else { 1 }, q),
+        ),
         Claim::FalseUntil(e, q) => (e, in_run(declared, e, 2, q)),
         Claim::TrueStep(e, q, label) => (e, in_run(declared, e, if label == 0 { 3 } else { 4 }, q)),
         Claim::FalseStep(e, q) => (e, in_run(declared, e, 5, q)),

@@ -33,10 +33,7 @@ impl Grown {
         Grown {
             units: 0,
             first: 0,
-            used: Used {
-                nodes: 0,
-                edges: 0,
-            },
+            used: Used { nodes: 0, edges: 0 },
         }
     }
 
@@ -78,10 +75,7 @@ fn first_unit(document: &Document, nodes: &mut [Node], edges: &mut [Edge]) -> Op
         origin: Origin::First,
     };
     let mut trail = Trail::new();
-    let none = Used {
-        nodes: 0,
-        edges: 0,
-    };
+    let none = Used { nodes: 0, edges: 0 };
     let goal = document.goal() as u8;
     let used = enter_first(opening, goal, &mut trail, nodes, edges, none)?;
     Some(Grown {
@@ -92,7 +86,12 @@ fn first_unit(document: &Document, nodes: &mut [Node], edges: &mut [Edge]) -> Op
 }
 
 // The unit that opens the lowest unopened node. None where its successors do not fit.
-fn next_unit(document: &Document, nodes: &mut [Node], edges: &mut [Edge], grown: Grown) -> Option<Grown>
+fn next_unit(
+    document: &Document,
+    nodes: &mut [Node],
+    edges: &mut [Edge],
+    grown: Grown,
+) -> Option<Grown>
     requires sound { ⌜ Sound (length (now nodes)) (length (now edges)) grown ⌝ }
     requires due { ⌜ 1 ≤ grown .units ⌝ ∗ ⌜ grown .units ≤ grown .used .nodes ⌝ }
     ensures { λ r. ⌜ Cases r (Unit {0}) (λ g. Later (length (now (nodes .entry))) (length (now (edges .entry))) grown g) ⌝ }
@@ -172,6 +171,10 @@ pub fn grow(
         }
         units += 1;
     }
-    let report = if now.is_complete() { Report::Complete } else { Report::More };
+    let report = if now.is_complete() {
+        Report::Complete
+    } else {
+        Report::More
+    };
     (now, Growth { units, report })
 }

@@ -9,6 +9,7 @@ use crate::claims::ClaimSet;
 
 // Places of the tables that are used at most.
 pub const MOST_NODES: usize = 4096;
+
 pub const MOST_EDGES: usize = 65536;
 
 // A node: the action of its step, the phase, whether it is closing, and its claims. Of these hang `shows` and `hides`, the

@@ -69,7 +69,8 @@ fn add_false_steps(
 {
     let mut all = set;
     for q in 0..states_of(rules.declared, e) {
-        if node.claims.contains(number(rules.declared, Claim::FalseStep(e, q as u8))) {
+        if node.claims
+            .contains(number(rules.declared, Claim::FalseStep(e, q as u8))) {
             all = add_targets(rules, node, e, q as u8, all, trail)?;
         }
     }
@@ -92,7 +93,8 @@ fn add_next(
     if node.claims.contains(number(rules.declared, Claim::True(e))) {
         all = add(rules, all, trail, &[rules.true_form(f)])?;
     }
-    if node.claims.contains(number(rules.declared, Claim::False(e))) {
+    if node.claims
+        .contains(number(rules.declared, Claim::False(e))) {
         all = add(rules, all, trail, &[rules.false_form(f)])?;
     }
     Some(all)
@@ -198,7 +200,10 @@ fn try_target(
     ensures kept { λ _. ⌜ on (now (trail .exit)) ≡ on (now (trail .entry)) ⌝ }
     ensures room { λ r. ⌜ More (length (now (nodes .entry))) (length (now (edges .entry))) used r ⌝ }
 {
-    let claim = number(opening.rules.declared, Claim::TrueUntil(step.form, target, step.label));
+    let claim = number(
+        opening.rules.declared,
+        Claim::TrueUntil(step.form, target, step.label),
+    );
     let mark = trail.len;
     let guard = Tried {
         trail: &mut *trail,
@@ -207,7 +212,16 @@ fn try_target(
     let Some(more) = add(opening.rules, set, guard.trail, &[claim]) else {
         return Some(used);
     };
-    choose(opening, node, step.number + 1, more, guard.trail, nodes, edges, used)
+    choose(
+        opening,
+        node,
+        step.number + 1,
+        more,
+        guard.trail,
+        nodes,
+        edges,
+        used,
+    )
 }
 
 // Enters the first nodes: the expansions of the claim that the goal is true. None where there is no room.

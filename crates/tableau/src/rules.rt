@@ -156,7 +156,11 @@ impl<'a> Rules<'a> {
     fn claims_prop(self, set: ClaimSet, p: u8, sign: bool) -> bool {
         for e in 0..self.declared.forms().count() {
             if let Form::Prop(other) = self.declared.form(e) {
-                let claim = if sign { Claim::True(e as u8) } else { Claim::False(e as u8) };
+                let claim = if sign {
+                    Claim::True(e as u8)
+                } else {
+                    Claim::False(e as u8)
+                };
                 if other == p && set.contains(number(self.declared, claim)) {
                     return true;
                 }
@@ -166,7 +170,11 @@ impl<'a> Rules<'a> {
     }
 
     fn clashes_form(self, set: ClaimSet, e: u8, sign: bool) -> bool {
-        let other = if sign { Claim::False(e) } else { Claim::True(e) };
+        let other = if sign {
+            Claim::False(e)
+        } else {
+            Claim::True(e)
+        };
         if set.contains(number(self.declared, other)) {
             return true;
         }

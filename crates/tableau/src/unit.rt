@@ -55,7 +55,11 @@ fn claimed_props(declared: &Declared, set: ClaimSet, sign: bool) -> u16 {
     let mut props = 0;
     for e in 0..declared.forms().count() {
         if let Form::Prop(p) = declared.form(e) {
-            let claim = if sign { Claim::True(e as u8) } else { Claim::False(e as u8) };
+            let claim = if sign {
+                Claim::True(e as u8)
+            } else {
+                Claim::False(e as u8)
+            };
             if set.contains(number(declared, claim)) {
                 props |= 1 << p;
             }
@@ -92,9 +96,11 @@ impl<'a> Opening<'a> {
     fn closes(self, set: ClaimSet) -> bool {
         match self.origin {
             Origin::First => true,
-            Origin::Opened { node: _, closing, first_edge: _ } => {
-                !closing && !promises(self.rules.declared, set, self.rules.phase)
-            }
+            Origin::Opened {
+                node: _,
+                closing,
+                first_edge: _,
+            } => { !closing && !promises(self.rules.declared, set, self.rules.phase) }
         }
     }
 }
@@ -139,21 +145,35 @@ fn enter_edge(edge: Edge, first: usize, edges: &mut [Edge], used: Used) -> Optio
 }
 
 // Enters a node of the unit, and its edge where a node is opened. None where there is no room.
-fn enter_node(opening: Opening, node: &Node, nodes: &mut [Node], edges: &mut [Edge], used: Used) -> Option<Used>
+fn enter_node(
+    opening: Opening,
+    node: &Node,
+    nodes: &mut [Node],
+    edges: &mut [Edge],
+    used: Used,
+) -> Option<Used>
     requires room { ⌜ Room (length (now nodes)) (length (now edges)) used ⌝ }
     ensures { λ r. ⌜ More (length (now (nodes .entry))) (length (now (edges .entry))) used r ⌝ }
 {
     let (place, used) = place_of(node, nodes, used)?;
     match opening.origin {
         Origin::First => Some(used),
-        Origin::Opened { node: from, closing: _, first_edge } => {
-            enter_edge(Edge { from, to: place }, first_edge, edges, used)
-        }
+        Origin::Opened {
+            node: from,
+            closing: _,
+            first_edge,
+        } => { enter_edge(Edge { from, to: place }, first_edge, edges, used) }
     }
 }
 
 // Enters a node of these claims for each action that does not clash with them. None where there is no room.
-pub fn enter_set(opening: Opening, set: ClaimSet, nodes: &mut [Node], edges: &mut [Edge], used: Used) -> Option<Used>
+pub fn enter_set(
+    opening: Opening,
+    set: ClaimSet,
+    nodes: &mut [Node],
+    edges: &mut [Edge],
+    used: Used,
+) -> Option<Used>
     requires room { ⌜ Room (length (now nodes)) (length (now edges)) used ⌝ }
     ensures { λ r. ⌜ More (length (now (nodes .entry))) (length (now (edges .entry))) used r ⌝ }
 {

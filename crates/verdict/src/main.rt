@@ -19,6 +19,7 @@ use tableau::node::Node;
 
 // Places of the tables.
 const NODES: usize = 512;
+
 const EDGES: usize = 4096;
 
 // Bytes that a lasso's text may have.
@@ -35,8 +36,16 @@ fn blank_step() -> Step {
 // What the program writes: one line, and after `found` the lasso's text, of `lines` bytes.
 #[derive(Clone, Copy)]
 enum Outcome {
-    Refused { code: u8, line: usize },
-    Decided { word: Word, nodes: usize, edges: usize, lines: usize },
+    Refused {
+        code: u8,
+        line: usize,
+    },
+    Decided {
+        word: Word,
+        nodes: usize,
+        edges: usize,
+        lines: usize,
+    },
 }
 
 #[derive(Clone, Copy)]
@@ -64,7 +73,12 @@ fn refused_call(refusal: Refusal) -> Outcome
 }
 
 // The verdict of a study that was grown; a found lasso's text stands in the first bytes of `text`.
-fn decided(study: &Study, work: &mut [u64], steps: &mut [Step], text: &mut [u8]) -> Result<(Word, usize), Refusal> {
+fn decided(
+    study: &Study,
+    work: &mut [u64],
+    steps: &mut [Step],
+    text: &mut [u8],
+) -> Result<(Word, usize), Refusal> {
     match study.decide(work, steps)? {
         Verdict::None => Ok((Word::None, 0)),
         Verdict::Found { steps: n, stem } => {
@@ -129,7 +143,12 @@ fn main(rt: LibcRuntime) -> io::Result<()> {
     let mut text = vec![in heap; 0u8; TEXT]?;
     match settled(heap, &document, &mut text)? {
         Outcome::Refused { code, line } => println!(rt, "refused\t{code}\t{line}"),
-        Outcome::Decided { word, nodes, edges, lines } => {
+        Outcome::Decided {
+            word,
+            nodes,
+            edges,
+            lines,
+        } => {
             let word = spelled(word);
             println!(rt, "verdict\t{word}\t{nodes}\t{edges}")?;
             if lines <= text.len() {
