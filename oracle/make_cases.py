@@ -154,7 +154,7 @@ def verdict_cases(cases, rng):
         nodes, edges = len(study.nodes), study.edge_count()
         if nodes < 4:
             continue
-        tables = rng.choice([(nodes - 1, edges), (nodes, edges - 1),
+        tables = rng.choice([(nodes - 1, edges), (nodes, max(edges - 1, 0)),
                              (rng.randrange(nodes), edges + 7),
                              (nodes + 7, rng.randrange(edges)) if edges else (0, 0),
                              (rng.randrange(nodes), rng.randrange(edges + 1))])
