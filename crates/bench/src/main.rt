@@ -1,5 +1,6 @@
 // How the cost of the calls grows with the work. Without an argument a small run says what comes out; with the argument
 // `times` the full one says how long each piece of work takes, and how many times as long as the one before.
+mod auditing;
 mod growing;
 mod judging;
 mod loading;
@@ -17,6 +18,7 @@ fn run(rt: &LibcRuntime, timed: bool) -> Result<(), AnyError> {
     judging::series(&mut meter)?;
     searching::computed(&mut meter)?;
     searching::listed(&mut meter)?;
+    auditing::series(&mut meter)?;
     growing::series(&mut meter)?;
     loading::series(&mut meter)
 }
