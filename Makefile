@@ -2,7 +2,7 @@
 #
 #   make oracle           self test of the oracle
 #   make compare SEED=7   fresh cases, answered by the built program and by the oracle
-#   make cases            the stored cases and answers, made again from seed 1
+#   make cases            the stored cases and answers, made again from the first seed
 
 SEED ?= 1
 PYTHON ?= python3
