@@ -1,14 +1,10 @@
 // Growing the graph of a goal.
 use crate::meter::Meter;
-use crate::texts::promises;
-use crate::texts::wide;
-use std::error::AnyError;
+use crate::texts::{promises, wide};
 use study::refusal::Refusal;
 use study::study::Study;
-use tableau::grow::Growth;
-use tableau::grow::Report;
-use tableau::node::Edge;
-use tableau::node::Node;
+use tableau::grow::{Growth, Report};
+use tableau::node::{Edge, Node};
 
 fn word(grown: Result<Growth, Refusal>) -> &'static str {
     match grown {
@@ -22,7 +18,7 @@ fn word(grown: Result<Growth, Refusal>) -> &'static str {
 }
 
 // Grows to the end, and writes how many nodes there are.
-fn grow(meter: &mut Meter, text: &[u8]) -> Result<(), AnyError> {
+fn grow(meter: &mut Meter, text: &[u8]) -> anyhow::Result<()> {
     let heap = meter.heap();
     let mut nodes = vec![in heap; Node::blank(); 4096]?;
     let mut edges = vec![in heap; Edge::blank(); 65536]?;
@@ -40,7 +36,7 @@ fn grow(meter: &mut Meter, text: &[u8]) -> Result<(), AnyError> {
     Ok(())
 }
 
-pub fn series(meter: &mut Meter) -> Result<(), AnyError> {
+pub fn series(meter: &mut Meter) -> anyhow::Result<()> {
     meter.series("growing many first nodes: nodes")?;
     let first = if meter.is_timed() { 3 } else { 1 };
     for last in [first, 2 * first] {

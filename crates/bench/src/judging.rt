@@ -3,11 +3,10 @@ use crate::meter::Meter;
 use crate::texts::full;
 use lasso::step::Step;
 use std::alloc::Global;
-use std::error::AnyError;
 use study::study::Study;
 
 // A loop of `count` steps: by action b, but once, in its middle, by c. After that the proposition holds.
-fn once_round(heap: Global, count: usize) -> Result<Vec<Step>, AnyError> {
+fn once_round(heap: Global, count: usize) -> anyhow::Result<Vec<Step>> {
     let mut steps = Vec::new(heap);
     for i in 0..count {
         let middle = i == count / 2;
@@ -22,7 +21,7 @@ fn once_round(heap: Global, count: usize) -> Result<Vec<Step>, AnyError> {
 }
 
 // Judges such a loop, and says what came out.
-fn judge(meter: &mut Meter, text: &[u8], count: usize) -> Result<(), AnyError> {
+fn judge(meter: &mut Meter, text: &[u8], count: usize) -> anyhow::Result<()> {
     let steps = once_round(meter.heap(), count)?;
     let mut work = vec![in meter.heap(); 0u64; count.saturating_mul(4)]?;
     let mut study = Study::new(&mut [], &mut []);
@@ -42,7 +41,7 @@ fn judge(meter: &mut Meter, text: &[u8], count: usize) -> Result<(), AnyError> {
     Ok(())
 }
 
-pub fn series(meter: &mut Meter) -> Result<(), AnyError> {
+pub fn series(meter: &mut Meter) -> anyhow::Result<()> {
     let text = full(meter.heap())?;
     meter.series("judging: steps")?;
     let first = if meter.is_timed() { 16384 } else { 64 };

@@ -1,11 +1,10 @@
 // Loading texts.
 use crate::meter::Meter;
 use crate::texts::filled;
-use std::error::AnyError;
 use study::study::Study;
 
 // Loads a text so many times.
-fn load(meter: &mut Meter, size: usize, times: u16) -> Result<(), AnyError> {
+fn load(meter: &mut Meter, size: usize, times: u16) -> anyhow::Result<()> {
     let text = filled(meter.heap(), size)?;
     let mut study = Study::new(&mut [], &mut []);
     let mut answer = "refused";
@@ -23,7 +22,7 @@ fn load(meter: &mut Meter, size: usize, times: u16) -> Result<(), AnyError> {
     Ok(())
 }
 
-pub fn series(meter: &mut Meter) -> Result<(), AnyError> {
+pub fn series(meter: &mut Meter) -> anyhow::Result<()> {
     meter.series("loading: bytes, a thousand times")?;
     let times = if meter.is_timed() { 1000 } else { 1 };
     for size in [4096, 8192, 16384] {

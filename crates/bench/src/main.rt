@@ -11,9 +11,8 @@ mod wheel;
 
 use crate::meter::Meter;
 use std::env;
-use std::error::AnyError;
 
-fn run(rt: &LibcRuntime, timed: bool) -> Result<(), AnyError> {
+fn run(rt: &HostRuntime, timed: bool) -> anyhow::Result<()> {
     let mut meter = Meter::new(rt, timed);
     judging::series(&mut meter)?;
     searching::computed(&mut meter)?;
@@ -24,7 +23,7 @@ fn run(rt: &LibcRuntime, timed: bool) -> Result<(), AnyError> {
 }
 
 // Whether the first argument is `times`.
-fn wants_times(rt: &LibcRuntime) -> Result<bool, AnyError> {
+fn wants_times(rt: &HostRuntime) -> anyhow::Result<bool> {
     for (i, word) in env::args(rt)?.enumerate() {
         if i == 1 {
             return Ok(word.as_str() == "times");
@@ -33,7 +32,7 @@ fn wants_times(rt: &LibcRuntime) -> Result<bool, AnyError> {
     Ok(false)
 }
 
-fn main(rt: LibcRuntime) -> Result<(), AnyError> {
+fn main(rt: HostRuntime) -> anyhow::Result<()> {
     let timed = wants_times(&rt)?;
-    rt.report(run(&rt, timed))
+    run(&rt, timed)
 }

@@ -5,7 +5,7 @@ use std::time::Instant;
 
 #[derive(Drop)]
 pub struct Meter<'a> {
-    rt: &'a LibcRuntime,
+    rt: &'a HostRuntime,
     timed: bool,
     // Microseconds of the fastest round so far, and of the line before.
     best: u64,
@@ -13,14 +13,14 @@ pub struct Meter<'a> {
 }
 
 // Microseconds in milliseconds.
-fn show_time(rt: &LibcRuntime, micros: u64) -> io::Result<()> {
+fn show_time(rt: &HostRuntime, micros: u64) -> io::Result<()> {
     let whole = micros / 1000;
     let rest = micros % 1000;
     print!(rt, "{whole}.{rest:03} ms")
 }
 
 // How many times the work before it took.
-fn show_ratio(rt: &LibcRuntime, micros: u64, before: u64) -> io::Result<()> {
+fn show_ratio(rt: &HostRuntime, micros: u64, before: u64) -> io::Result<()> {
     if before == 0 {
         return Ok(());
     }
@@ -31,7 +31,7 @@ fn show_ratio(rt: &LibcRuntime, micros: u64, before: u64) -> io::Result<()> {
 }
 
 impl<'a> Meter<'a> {
-    pub fn new(rt: &'a LibcRuntime, timed: bool) -> Meter<'a> {
+    pub fn new(rt: &'a HostRuntime, timed: bool) -> Meter<'a> {
         Meter {
             rt,
             timed,
@@ -56,7 +56,7 @@ impl<'a> Meter<'a> {
     // Begins a series.
     pub fn series(&mut self, name: &str) -> io::Result<()> {
         self.before = 0;
-        println!(self.rt, "{name}")
+        println!(self.rt; "{name}")
     }
 
     pub fn start(&self) -> io::Result<Instant> {
@@ -82,6 +82,6 @@ impl<'a> Meter<'a> {
         } else {
             print!(self.rt, "{answer}")?;
         }
-        println!(self.rt, "")
+        println!(self.rt; "")
     }
 }

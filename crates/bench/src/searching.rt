@@ -2,20 +2,14 @@
 use crate::meter::Meter;
 use crate::texts::vain;
 use crate::wheel::Wheel;
-use crate::wheel::WheelSystem;
 use lasso::step::Step;
 use std::alloc::Global;
-use std::error::AnyError;
 use study::refusal::Refusal;
 use study::study::Study;
 use study::study::calls::Verdict;
-use system::listed::Listed;
-use system::listed::ListedSystem;
-use system::listed::Row;
-use system::listed::StateRecord;
+use system::listed::{Listed, Row, StateRecord};
 use system::system::System;
-use tableau::node::Edge;
-use tableau::node::Node;
+use tableau::node::{Edge, Node};
 
 fn word(verdict: Result<Verdict, Refusal>) -> &'static str {
     match verdict {
@@ -26,7 +20,7 @@ fn word(verdict: Result<Verdict, Refusal>) -> &'static str {
 }
 
 // Examines the system, and writes how many pairs there are.
-fn examine<S: System>(meter: &mut Meter, text: &[u8], system: S) -> Result<(), AnyError> {
+fn examine<S: System>(meter: &mut Meter, text: &[u8], system: S) -> anyhow::Result<()> {
     let heap = meter.heap();
     let mut nodes = vec![in heap; Node::blank(); 64]?;
     let mut edges = vec![in heap; Edge::blank(); 1024]?;
@@ -53,7 +47,7 @@ fn examine<S: System>(meter: &mut Meter, text: &[u8], system: S) -> Result<(), A
 }
 
 // Pairs of 16 nodes and up to 4,096 states of a wheel, with four slots each.
-pub fn computed(meter: &mut Meter) -> Result<(), AnyError> {
+pub fn computed(meter: &mut Meter) -> anyhow::Result<()> {
     let text = vain(meter.heap(), "act\ta\n")?;
     meter.series("searching a computed system: pairs")?;
     let first = if meter.is_timed() { 128 } else { 1 };
@@ -65,7 +59,7 @@ pub fn computed(meter: &mut Meter) -> Result<(), AnyError> {
 }
 
 // The rows of a wheel of four times so many states.
-fn wheel_rows(heap: Global, groups: usize) -> Result<Vec<Row>, AnyError> {
+fn wheel_rows(heap: Global, groups: usize) -> anyhow::Result<Vec<Row>> {
     let wheel = Wheel { groups };
     let mut rows = Vec::new(heap);
     for from in 0..wheel.count() {
@@ -83,7 +77,7 @@ fn wheel_rows(heap: Global, groups: usize) -> Result<Vec<Row>, AnyError> {
 }
 
 // Examines listed wheels, of up to 1,024 states and 4,096 rows.
-fn listed_series(meter: &mut Meter, text: &[u8]) -> Result<(), AnyError> {
+fn listed_series(meter: &mut Meter, text: &[u8]) -> anyhow::Result<()> {
     let heap = meter.heap();
     let start = StateRecord {
         starts: true,
@@ -100,7 +94,7 @@ fn listed_series(meter: &mut Meter, text: &[u8]) -> Result<(), AnyError> {
 }
 
 // Pairs of 16 and of 64 nodes and the states of listed wheels.
-pub fn listed(meter: &mut Meter) -> Result<(), AnyError> {
+pub fn listed(meter: &mut Meter) -> anyhow::Result<()> {
     let one = vain(meter.heap(), "act\ta\n")?;
     meter.series("searching a listed system with 16 nodes: pairs")?;
     listed_series(meter, one.as_bytes())?;

@@ -1,11 +1,10 @@
 // The documents of the series.
 use std::alloc::Global;
-use std::error::AnyError;
 use std::fmt::Write;
 
 // One until whose promise is never kept, over a program of fifteen steps: a goal of 16 nodes for each of the actions
 // declared in `acts`, and no lasso.
-pub fn vain(heap: Global, acts: &str) -> Result<String, AnyError> {
+pub fn vain(heap: Global, acts: &str) -> anyhow::Result<String> {
     let mut text = String::from_str(heap, acts)?;
     text.push_str("prog\tx\t(a;a;a;a;a;a;a;a;a;a;a;a;a;a;a)*\n")?;
     text.push_str("form\tt\ttrue\nform\tn\tnot\tt\nform\tu\tuntil\tt\tx\tn\ngoal\tu\n")?;
@@ -13,7 +12,7 @@ pub fn vain(heap: Global, acts: &str) -> Result<String, AnyError> {
 }
 
 // Adds the forms f1 to f57, each over the one before it.
-fn add_forms(text: &mut String) -> Result<(), AnyError> {
+fn add_forms(text: &mut String) -> anyhow::Result<()> {
     for k in 1..58u8 {
         let last = k - 1;
         match k % 4 {
@@ -27,7 +26,7 @@ fn add_forms(text: &mut String) -> Result<(), AnyError> {
 }
 
 // 64 forms, four of them untils that go round a loop up to three times.
-pub fn full(heap: Global) -> Result<String, AnyError> {
+pub fn full(heap: Global) -> anyhow::Result<String> {
     let mut text = String::from_str(heap, "act\tb\nact\tc\nprop\tp\n")?;
     text.push_str("prog\tx0\tb*;c;b*\nprog\tx1\tb*;c;b*;c;b*\n")?;
     text.push_str("prog\tx2\tb*;c;b*;c;b*;c\nprog\tx3\tb*;c;b*;c\n")?;
@@ -41,7 +40,7 @@ pub fn full(heap: Global) -> Result<String, AnyError> {
 }
 
 // Adds forms whose last has `count` expansions: an or of true forms. Their names begin with `name`.
-fn add_choice(text: &mut String, name: char, count: u8) -> Result<(), AnyError> {
+fn add_choice(text: &mut String, name: char, count: u8) -> anyhow::Result<()> {
     writeln!(text, "form\t{name}0\ttrue")?;
     writeln!(text, "form\t{name}o0\tor\t{name}0\t{name}0")?;
     for i in 1..count {
@@ -53,7 +52,7 @@ fn add_choice(text: &mut String, name: char, count: u8) -> Result<(), AnyError> 
 }
 
 // 16 actions and a goal of 42 * `last` expansions: 672 * `last` first nodes, and 64 that follow each of them.
-pub fn wide(heap: Global, last: u8) -> Result<String, AnyError> {
+pub fn wide(heap: Global, last: u8) -> anyhow::Result<String> {
     let mut text = String::new(heap);
     for a in 0..16u8 {
         writeln!(text, "act\ta{a}")?;
@@ -70,7 +69,7 @@ pub fn wide(heap: Global, last: u8) -> Result<String, AnyError> {
 }
 
 // `count` untils that are all promised at once.
-pub fn promises(heap: Global, count: u8) -> Result<String, AnyError> {
+pub fn promises(heap: Global, count: u8) -> anyhow::Result<String> {
     let mut text = String::from_str(
         heap,
         "act\ta\nprog\tx\ta*\nform\tt\ttrue\nform\tg0\tor\tt\tt\n",
@@ -88,7 +87,7 @@ pub fn promises(heap: Global, count: u8) -> Result<String, AnyError> {
 }
 
 // Adds a program of `len` bytes, if its line takes no more: stars fill it up.
-fn add_program(text: &mut String, i: u8, len: usize) -> Result<(), AnyError> {
+fn add_program(text: &mut String, i: u8, len: usize) -> anyhow::Result<()> {
     let end = text.len().saturating_add(len);
     write!(text, "prog\tx{i}\ta{i}")?;
     for _ in text.len().saturating_add(1)..end {
@@ -99,7 +98,7 @@ fn add_program(text: &mut String, i: u8, len: usize) -> Result<(), AnyError> {
 }
 
 // 64 forms in a row.
-fn row_of_forms(heap: Global) -> Result<String, AnyError> {
+fn row_of_forms(heap: Global) -> anyhow::Result<String> {
     let mut text = String::from_str(heap, "form\tf0\ttrue\n")?;
     for i in 1..64u8 {
         let last = i - 1;
@@ -110,7 +109,7 @@ fn row_of_forms(heap: Global) -> Result<String, AnyError> {
 }
 
 // A text of `size` bytes, if its lines take no more: 16 actions, propositions and programs, and 64 forms.
-pub fn filled(heap: Global, size: usize) -> Result<String, AnyError> {
+pub fn filled(heap: Global, size: usize) -> anyhow::Result<String> {
     let forms = row_of_forms(heap)?;
     let mut text = String::new(heap);
     for i in 0..16u8 {

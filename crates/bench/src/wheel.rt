@@ -1,9 +1,8 @@
 // A system that is computed and not listed.
-ghost use mathlib.Core.Path.{_≡_};
-ghost use Prim.Native.Nat.{_+_, _<_, _≤_};
-ghost use Rattle·bench·specs.Wheel.{size, next-group as next-of, wheel, wheel-lawful};
-use system::system::Move;
-use system::system::System;
+ghost use Rattle.std.specs.Prelude.{◌≡◌, ◌+◌, ◌<◌, ◌≤◌};
+ghost use Rattle.bench.specs.Wheel.{size, next_group as next_of, wheel, wheel_lawful};
+
+use system::system::{Move, System};
 
 // Groups of four states, at most 1,024. From each state action 0 leads to the four of the next group, and from the last
 // group to the first.
@@ -14,15 +13,15 @@ pub struct Wheel {
 
 // How many states so many groups have.
 fn states(groups: usize) -> usize
-    ensures { λ r. ⌜ r ≡ size groups ⌝ }
+    ensures { result ≡ size groups }
 {
     if groups <= 1024 { 4 * groups } else { 0 }
 }
 
 // The first state of the group after that of a state.
 fn next_group(groups: usize, state: usize) -> usize
-    requires { ⌜ state < 4096 ⌝ }
-    ensures { λ r. ⌜ r ≡ next-of groups state ⌝ ∗ ⌜ r ≤ 4096 ⌝ }
+    requires { state < 4096 }
+    ensures { (result ≡ next_of groups state) × (result ≤ 4096) }
 {
     if state / 4 + 1 < groups {
         4 * (state / 4 + 1)
@@ -31,10 +30,10 @@ fn next_group(groups: usize, state: usize) -> usize
     }
 }
 
-pub impl System for Wheel as WheelSystem {
-    ghost meaning = { λ s. wheel (s .groups) };
+impl System for Wheel {
+    ghost meaning = { λ s. wheel s.groups };
 
-    ghost lawful = { λ s. wheel-lawful (s .groups) };
+    ghost lawful = { λ s. wheel_lawful s.groups };
 
     fn count(&self) -> usize {
         states(self.groups)

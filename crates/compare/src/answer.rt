@@ -1,6 +1,7 @@
 // What a case answers, and the line that says so.
-ghost use mathlib.Core.Path.{_≡_};
-ghost use Rattle·document.specs.Faults.{loadCode, loadLine, loadColumn};
+ghost use Rattle.std.specs.Prelude.{◌≡◌};
+ghost use Rattle.document.specs.Faults.{load_fault_code, load_fault_line, load_fault_column};
+
 use document::fault::LoadFault;
 use std::fmt;
 use study::refusal::Refusal;
@@ -68,7 +69,7 @@ pub enum Answer {
 
 impl Answer {
     pub fn bad_line(fault: LoadFault) -> Answer
-        ensures { λ r. ⌜ r ≡ Answer.BadLine (loadCode fault) (loadLine fault) ⌝ }
+        ensures { result ≡ Answer.BadLine (load_fault_code fault) (load_fault_line fault) }
     {
         Answer::BadLine {
             code: fault.code(),
@@ -77,7 +78,7 @@ impl Answer {
     }
 
     pub fn bad_column(fault: LoadFault) -> Answer
-        ensures { λ r. ⌜ r ≡ Answer.BadColumn (loadCode fault) (loadLine fault) (loadColumn fault) ⌝ }
+        ensures { result ≡ Answer.BadColumn (load_fault_code fault) (load_fault_line fault) (load_fault_column fault) }
     {
         Answer::BadColumn {
             code: fault.code(),
@@ -103,7 +104,7 @@ fn reported(report: Report) -> &'static str {
     }
 }
 
-pub impl fmt::Display for Counts as CountsDisplay {
+impl fmt::Display for Counts {
     fn fmt<W: fmt::Write>(&self, f: &mut fmt::Formatter<W>) -> fmt::Result {
         let Counts {
             acts,
@@ -116,7 +117,7 @@ pub impl fmt::Display for Counts as CountsDisplay {
     }
 }
 
-pub impl fmt::Display for Progress as ProgressDisplay {
+impl fmt::Display for Progress {
     fn fmt<W: fmt::Write>(&self, f: &mut fmt::Formatter<W>) -> fmt::Result {
         let units = self.units;
         let report = reported(self.report);
@@ -151,7 +152,7 @@ fn show_grown<W: fmt::Write>(f: &mut fmt::Formatter<W>, calls: &[Progress]) -> f
     Ok(())
 }
 
-pub impl fmt::Display for Answer as AnswerDisplay {
+impl fmt::Display for Answer {
     fn fmt<W: fmt::Write>(&self, f: &mut fmt::Formatter<W>) -> fmt::Result {
         match self {
             Answer::Loaded(counts) => write!(f, "{counts}"),

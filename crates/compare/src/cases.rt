@@ -1,10 +1,8 @@
 // One case: its kind, its number and what follows it.
 use crate::answer::Answer;
 use crate::cursor::Cursor;
-use crate::goal_cases;
-use crate::lasso_cases;
 use crate::stop::Stop;
-use crate::system_cases;
+use crate::{goal_cases, lasso_cases, system_cases};
 use std::alloc::Global;
 
 // Reads the next case and runs it. Answers its number and what the engine says.

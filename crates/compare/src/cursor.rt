@@ -1,10 +1,6 @@
 // The file of cases, read from the front: words, numbers and byte strings.
-ghost use mathlib.Core.Path.{_≡_};
-ghost use Prim.Native.Nat.{ℕ, _+_, _<_, _≤_};
-ghost use denote.Ref.{now};
-ghost use lib.Dec.{eqb};
-ghost use lib.ListN.{length};
-ghost use Rattle·std.specs.Vec.{made};
+ghost use Rattle.std.specs.Prelude.{◌≡◌, ℕ, ◌+◌, ◌<◌, ◌≤◌, length, IfOk, ◌==◌};
+
 use crate::stop::Stop;
 
 // Places that a record may ask for.
@@ -14,7 +10,7 @@ pub const MOST_PLACES: usize = 4194304;
 pub struct Cursor<'a> {
     file: &'a [u8],
     at: usize,
-    ghost within: { at ≤ length (now file) },
+    ghost within: { at ≤ length file.now },
 }
 
 fn is_gap(byte: u8) -> bool {
@@ -23,8 +19,8 @@ fn is_gap(byte: u8) -> bool {
 
 // The place of the first gap from `at` on, or the end.
 fn gap_from(file: &[u8], at: usize) -> usize
-    requires { ⌜ at ≤ length (now file) ⌝ }
-    ensures { λ r. ⌜ (at ≤ r) × (r ≤ length (now (file .entry))) ⌝ }
+    requires { at ≤ length file.now }
+    ensures { (at ≤ result) × (result ≤ length file.now) }
 {
     for i in at..file.len() {
         if is_gap(file[i]) {
@@ -48,13 +44,13 @@ fn decimal(word: &[u8]) -> Option<u64> {
 
 impl<'a> Cursor<'a> {
     pub fn new(file: &'a [u8]) -> Cursor<'a>
-        ensures { λ r. ⌜ r .at ≡ 0 ⌝ ∗ ⌜ now (r .file) ≡ now (file .entry) ⌝ }
+        ensures { (result.at ≡ 0) × (result.file.now ≡ file.now) }
     {
         Cursor { file, at: 0 }
     }
 
     pub fn is_at_end(&self) -> bool
-        ensures { λ r. ⌜ r ≡ eqb (now (self .entry) .at) (length (now (now (self .entry) .file))) ⌝ }
+        ensures { result ≡ (self.now.at == length self.now.file.now) }
     {
         self.at == self.file.len()
     }
@@ -66,7 +62,7 @@ impl<'a> Cursor<'a> {
 
     // The next word; it is empty at the end and before a gap.
     pub fn word(&mut self) -> &'a [u8]
-        ensures { λ r. ⌜ now (self .entry) .at + length (now r) ≤ now (self .exit) .at ⌝ }
+        ensures { self.old.at + length result.now ≤ self.new.at }
     {
         let file = self.file;
         let start = self.at;
@@ -85,7 +81,7 @@ impl<'a> Cursor<'a> {
 
     // A number up to a limit.
     fn number_to(&mut self, most: u64) -> Result<u64, Stop>
-        ensures { λ r. ⌜ made r (λ n. n ≤ most) ⌝ }
+        ensures { IfOk result (λ n. n ≤ most) }
     {
         let stop = self.malformed();
         let value = self.number()?;
@@ -94,7 +90,7 @@ impl<'a> Cursor<'a> {
 
     // A number of places.
     pub fn places(&mut self) -> Result<usize, Stop>
-        ensures { λ r. ⌜ made r (λ n. n ≤ 4194304) ⌝ }
+        ensures { IfOk result (λ n. n ≤ 4194304) }
     {
         Ok(self.number_to(MOST_PLACES as u64)? as usize)
     }
@@ -111,7 +107,7 @@ impl<'a> Cursor<'a> {
 
     // A byte string: its length, and then that many bytes and a line feed.
     pub fn bytes(&mut self) -> Result<&'a [u8], Stop>
-        ensures { λ r. ⌜ made r (λ s. length (now s) < now (self .exit) .at) ⌝ }
+        ensures { IfOk result (λ s. length s.now < self.new.at) }
     {
         let most = self.file.len() as u64;
         let len = self.number_to(most)? as usize;

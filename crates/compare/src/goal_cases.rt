@@ -1,23 +1,16 @@
 // Cases on a goal alone: load, verdict and grow.
-use crate::answer::Answer;
-use crate::answer::Counts;
-use crate::answer::Progress;
-use crate::answer::Settled;
+use crate::answer::{Answer, Counts, Progress, Settled};
 use crate::cursor::Cursor;
 use crate::stop::Stop;
-use crate::stop::StopFromAlloc;
-use crate::stop::StopFromRefused;
 use crate::tables::blank_step;
 use document::document::Document;
 use lasso::step::Step;
-use std::alloc::AllocError;
-use std::alloc::Global;
+use std::alloc::{AllocError, Global};
 use study::refusal::Refusal;
 use study::study::Study;
 use study::study::calls::Verdict;
 use tableau::grow::Report;
-use tableau::node::Edge;
-use tableau::node::Node;
+use tableau::node::{Edge, Node};
 
 fn counts(document: &Document) -> Counts {
     let declared = document.declared();

@@ -2,12 +2,9 @@
 use crate::answer::Answer;
 use crate::cursor::Cursor;
 use crate::stop::Stop;
-use crate::stop::StopFromAlloc;
-use crate::tables::blank_step;
-use crate::tables::read_steps;
+use crate::tables::{blank_step, read_steps};
 use lasso::step::Step;
-use std::alloc::AllocError;
-use std::alloc::Global;
+use std::alloc::{AllocError, Global};
 use study::refusal::TextFault;
 use study::study::Study;
 
@@ -40,12 +37,10 @@ fn prints_as(
     text: &[u8],
 ) -> Result<bool, AllocError> {
     let mut again = vec![in heap; 0u8; text.len()]?;
-    Ok(
-        match study.print(lasso, stem, &mut again) {
-            Ok(len) => len == text.len() && again.as_slice() == text,
-            Err(_) => false,
-        },
-    )
+    Ok(match study.print(lasso, stem, &mut again) {
+        Ok(len) => len == text.len() && again.as_slice() == text,
+        Err(_) => false,
+    })
 }
 
 pub fn scan(heap: Global, cursor: &mut Cursor) -> Result<Answer, Stop> {
@@ -72,13 +67,11 @@ pub fn scan(heap: Global, cursor: &mut Cursor) -> Result<Answer, Stop> {
 fn shown(heap: Global, text: &[u8]) -> Result<String, AllocError> {
     let mut all = String::new(heap);
     for byte in text {
-        all.push(
-            match *byte {
-                b'\t' => ' ',
-                b'\n' => '|',
-                other => char::from(other),
-            },
-        )?;
+        all.push(match *byte {
+            b'\t' => ' ',
+            b'\n' => '|',
+            other => char::from(other),
+        })?;
     }
     Ok(all)
 }

@@ -8,14 +8,11 @@ mod stop;
 mod system_cases;
 mod tables;
 
-use crate::answer::AnswerDisplay;
 use crate::cases::case;
 use crate::cursor::Cursor;
-use crate::stop::StopError;
-use std::error::AnyError;
 use std::fs;
 
-fn run(rt: &LibcRuntime) -> Result<(), AnyError> {
+fn run(rt: &HostRuntime) -> anyhow::Result<()> {
     let file = fs::read(rt, "cases.txt")?;
     let mut cursor = Cursor::new(&file);
     for _ in 0..file.len() {
@@ -23,11 +20,11 @@ fn run(rt: &LibcRuntime) -> Result<(), AnyError> {
             break;
         }
         let (id, answer) = case(rt.alloc(), &mut cursor)?;
-        println!(rt, "{id} {answer}")?;
+        println!(rt; "{id} {answer}")?;
     }
     Ok(())
 }
 
-fn main(rt: LibcRuntime) -> Result<(), AnyError> {
-    rt.report(run(&rt))
+fn main(rt: HostRuntime) -> anyhow::Result<()> {
+    run(&rt)
 }

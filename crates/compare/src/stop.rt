@@ -1,6 +1,5 @@
 // Why the program ends before the last case.
-use std::alloc::AllocError;
-use std::alloc::Refused;
+use std::alloc::{AllocError, AllocFailed};
 use std::error::Error;
 use std::fmt;
 
@@ -11,7 +10,7 @@ pub enum Stop {
     NoMemory,
 }
 
-pub impl fmt::Display for Stop as StopDisplay {
+impl fmt::Display for Stop {
     fn fmt<W: fmt::Write>(&self, f: &mut fmt::Formatter<W>) -> fmt::Result {
         match self {
             Stop::Malformed { at } => write!(f, "cases.txt is malformed at byte {at}"),
@@ -20,16 +19,16 @@ pub impl fmt::Display for Stop as StopDisplay {
     }
 }
 
-pub impl Error for Stop as StopError {}
+impl Error for Stop {}
 
-pub impl From<AllocError> for Stop as StopFromAlloc {
+impl From<AllocError> for Stop {
     fn from(_error: AllocError) -> Stop {
         Stop::NoMemory
     }
 }
 
-pub impl<T: Drop> From<Refused<T>> for Stop as StopFromRefused {
-    fn from(_refused: Refused<T>) -> Stop {
+impl<T: Drop> From<AllocFailed<T>> for Stop {
+    fn from(_refused: AllocFailed<T>) -> Stop {
         Stop::NoMemory
     }
 }

@@ -1,24 +1,15 @@
 // Cases on a system: audit and examine.
-use crate::answer::Answer;
-use crate::answer::Settled;
+use crate::answer::{Answer, Settled};
 use crate::cursor::Cursor;
 use crate::stop::Stop;
-use crate::stop::StopFromAlloc;
-use crate::tables::Parts;
-use crate::tables::Shape;
-use crate::tables::blank_step;
-use crate::tables::read_steps;
+use crate::tables::{Parts, Shape, blank_step, read_steps};
 use lasso::step::Step;
-use std::alloc::AllocError;
-use std::alloc::Global;
+use std::alloc::{AllocError, Global};
 use study::study::Study;
 use study::study::calls::Verdict;
 use system::joint::Joint;
-use system::joint::JointSystem;
-use system::listed::ListedSystem;
 use system::system::System;
-use tableau::node::Edge;
-use tableau::node::Node;
+use tableau::node::{Edge, Node};
 
 fn audited<S: System>(
     study: &Study,
@@ -45,26 +36,24 @@ pub fn audit(heap: Global, cursor: &mut Cursor) -> Result<Answer, Stop> {
     let a = parts.a.listed();
     let b = parts.b.listed();
     let c = parts.c.listed();
-    Ok(
-        match shape {
-            Shape::One => audited(&study, a, &steps, stem, &mut work),
-            Shape::Two => audited(&study, Joint::new(a, b), &steps, stem, &mut work),
-            Shape::LeftFirst => audited(
-                &study,
-                Joint::new(Joint::new(a, b), c),
-                &steps,
-                stem,
-                &mut work,
-            ),
-            Shape::RightFirst => audited(
-                &study,
-                Joint::new(a, Joint::new(b, c)),
-                &steps,
-                stem,
-                &mut work,
-            ),
-        },
-    )
+    Ok(match shape {
+        Shape::One => audited(&study, a, &steps, stem, &mut work),
+        Shape::Two => audited(&study, Joint::new(a, b), &steps, stem, &mut work),
+        Shape::LeftFirst => audited(
+            &study,
+            Joint::new(Joint::new(a, b), c),
+            &steps,
+            stem,
+            &mut work,
+        ),
+        Shape::RightFirst => audited(
+            &study,
+            Joint::new(a, Joint::new(b, c)),
+            &steps,
+            stem,
+            &mut work,
+        ),
+    })
 }
 
 // Whether the audit says yes to the lasso.
@@ -114,24 +103,22 @@ pub fn examine(heap: Global, cursor: &mut Cursor) -> Result<Answer, Stop> {
     let a = parts.a.listed();
     let b = parts.b.listed();
     let c = parts.c.listed();
-    Ok(
-        match shape {
-            Shape::One => examined(heap, &study, a, &mut work, &mut steps)?,
-            Shape::Two => examined(heap, &study, Joint::new(a, b), &mut work, &mut steps)?,
-            Shape::LeftFirst => examined(
-                heap,
-                &study,
-                Joint::new(Joint::new(a, b), c),
-                &mut work,
-                &mut steps,
-            )?,
-            Shape::RightFirst => examined(
-                heap,
-                &study,
-                Joint::new(a, Joint::new(b, c)),
-                &mut work,
-                &mut steps,
-            )?,
-        },
-    )
+    Ok(match shape {
+        Shape::One => examined(heap, &study, a, &mut work, &mut steps)?,
+        Shape::Two => examined(heap, &study, Joint::new(a, b), &mut work, &mut steps)?,
+        Shape::LeftFirst => examined(
+            heap,
+            &study,
+            Joint::new(Joint::new(a, b), c),
+            &mut work,
+            &mut steps,
+        )?,
+        Shape::RightFirst => examined(
+            heap,
+            &study,
+            Joint::new(a, Joint::new(b, c)),
+            &mut work,
+            &mut steps,
+        )?,
+    })
 }

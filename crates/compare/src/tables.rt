@@ -1,12 +1,9 @@
 // What the records hold: steps, and systems of up to three tables.
 use crate::cursor::Cursor;
 use crate::stop::Stop;
-use crate::stop::StopFromRefused;
 use lasso::step::Step;
 use std::alloc::Global;
-use system::listed::Listed;
-use system::listed::Row;
-use system::listed::StateRecord;
+use system::listed::{Listed, Row, StateRecord};
 
 pub fn blank_step() -> Step {
     Step {

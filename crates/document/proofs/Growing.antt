@@ -1,216 +1,210 @@
 -- What lines declare grows, and stays within the limits where it ends within them.
-use mathlib.Core.Path.{_≡_, refl, sym, subst}
-use mathlib.Core.List.{List, [], _∷_, _++_}
-use mathlib.Core.Logic.{_≢_, ⊎-elim}
-use Prim.Native.Nat.{ℕ, _+_, _<_, _≤_}
-use native.Mathlib.Nat.{zero-add}
-use native.Mathlib.Omega.{arith}
-use lib.ListN.{length, getD}
-use Rattle·std.proofs.shelf.Lists.{getD-append-left, getD-push, length-push}
-use Rattle·std.proofs.shelf.Tests.{cases-eq}
-use Rattle·program.specs.Automata.{names}
-use Rattle·program.specs.Programs.{Spells-program}
-use Rattle·program.specs.Words.{Program, act}
-use Rattle·program.proofs.Unique.{one-program}
-use Rattle·document·specs.Documents.{weight}
-use Rattle·document·specs.Forms.{Earlier}
-use Rattle·document·specs.Lines.{Declarations, nothing, Line, act-line, prop-line, goal-line, prog-line, true-form, prop-form, not-form, and-form, or-form, next-form, until-form, Form-of, Well-named, Fine, Adds-form, Adds}
-use Rattle·document·specs.declared.form.Form.{Form}
-use Rattle·document·specs.declared.form.Form.the-variants.{True, Prop, Not, And, Or, Next, Until}
-use Rattle·document·proofs.FormLines.{Form-line, one-form}
-use Rattle·document·proofs.Held.{weight-kept, weight-push}
+use Rattle.std.proofs.Common.{◌≡◌, ℕ, ◌+◌, ◌<◌, ◌≤◌, ◌≢◌, List, [], ◌∷◌, ◌++◌, length, get_or, sym, refl, subst, ⊎_elim, zero-add, arith}
+use Rattle.std.proofs.lemmas.List.{get_or_append_left, get_or_push, length_push}
+use Rattle.std.proofs.lemmas.Bool.{cases_eq}
+use Rattle.program.specs.Automata.{names}
+use Rattle.program.specs.Programs.{SpellsProgram}
+use Rattle.program.specs.Words.{Program, act}
+use Rattle.program.proofs.Unique.{one_program}
+use Rattle.document.specs.Documents.{weight}
+use Rattle.document.specs.Forms.{Earlier}
+use Rattle.document.specs.Lines.{Declarations, nothing, Line, act_line, prop_line, goal_line, prog_line, true_form, prop_form, not_form, and_form, or_form, next_form, until_form, FormOf, WellNamed, Fine, AddsForm, Adds}
+use Rattle.document.specs.declared.form.Form.{Form}
+use Rattle.document.specs.declared.form.Form.TheVariants.{True, Prop, Not, And, Or, Next, Until}
+use Rattle.document.proofs.FormLines.{FormLine, one_form}
+use Rattle.document.proofs.Held.{weight_kept, weight_push}
 
 -- one declaration more, by sort
 data Grows (d : Declarations) : Line → Declarations → Type 0 where
-  by-act : (n : List ℕ) → Grows d (act-line n) (record { acts = d .acts ++ n ∷ []; props = d .props; prog-names = d .prog-names; progs = d .progs; form-names = d .form-names; forms = d .forms })
-  by-prop : (n : List ℕ) → Grows d (prop-line n) (record { acts = d .acts; props = d .props ++ n ∷ []; prog-names = d .prog-names; progs = d .progs; form-names = d .form-names; forms = d .forms })
-  by-prog : (n text : List ℕ) (p : Program) → Spells-program text (d .acts) p → Grows d (prog-line n text) (record { acts = d .acts; props = d .props; prog-names = d .prog-names ++ n ∷ []; progs = d .progs ++ p ∷ []; form-names = d .form-names; forms = d .forms })
-  by-form : (x : Line) (n : List ℕ) (f : Form) → Form-line d x n → Form-of d x f → Grows d x (record { acts = d .acts; props = d .props; prog-names = d .prog-names; progs = d .progs; form-names = d .form-names ++ n ∷ []; forms = d .forms ++ f ∷ [] })
+  by_act : (n : List ℕ) → Grows d (act_line n) (record { acts = d.acts ++ n ∷ []; props = d.props; prog_names = d.prog_names; progs = d.progs; form_names = d.form_names; forms = d.forms })
+  by_prop : (n : List ℕ) → Grows d (prop_line n) (record { acts = d.acts; props = d.props ++ n ∷ []; prog_names = d.prog_names; progs = d.progs; form_names = d.form_names; forms = d.forms })
+  by_prog : (n text : List ℕ) (p : Program) → SpellsProgram text d.acts p → Grows d (prog_line n text) (record { acts = d.acts; props = d.props; prog_names = d.prog_names ++ n ∷ []; progs = d.progs ++ p ∷ []; form_names = d.form_names; forms = d.forms })
+  by_form : (x : Line) (n : List ℕ) (f : Form) → FormLine d x n → FormOf d x f → Grows d x (record { acts = d.acts; props = d.props; prog_names = d.prog_names; progs = d.progs; form_names = d.form_names ++ n ∷ []; forms = d.forms ++ f ∷ [] })
 
-grows-form : (d m : Declarations) (x : Line) (n : List ℕ) → Form-line d x n → Adds-form d x n m → Grows d x m
-grows-form d m x n s a = subst (Grows d x) (sym (a .2)) (by-form x n (a .0) s (a .1))
+grows_form : (d m : Declarations) (x : Line) (n : List ℕ) → FormLine d x n → AddsForm d x n m → Grows d x m
+grows_form d m x n s a = subst (Grows d x) (sym a.2) (by_form x n a.0 s a.1)
 
 grows : (d m : Declarations) (x : Line) → Adds d x m → Grows d x m
-grows d m (act-line n) a = subst (Grows d (act-line n)) (sym a) (by-act n)
-grows d m (prop-line n) a = subst (Grows d (prop-line n)) (sym a) (by-prop n)
-grows d m (goal-line n) a = absurd a
-grows d m (prog-line n text) a = subst (Grows d (prog-line n text)) (sym (a .2)) (by-prog n text (a .0) (a .1))
-grows d m (true-form n) a = grows-form d m (true-form n) n (record { new-in = λ x. x; new-out = λ x. x; fits-in = λ x. x; fits-out = λ x. x; sound = λ c m. m; placed = tt; adds = λ e x. x }) a
-grows d m (prop-form n p) a = grows-form d m (prop-form n p) n (record { new-in = λ x. x; new-out = λ x. x; fits-in = λ x. x; fits-out = λ x. x; sound = λ c m. m; placed = tt; adds = λ e x. x }) a
-grows d m (not-form n f) a = grows-form d m (not-form n f) n (record { new-in = λ x. x; new-out = λ x. x; fits-in = λ x. x; fits-out = λ x. x; sound = λ c m. m; placed = tt; adds = λ e x. x }) a
-grows d m (and-form n f g) a = grows-form d m (and-form n f g) n (record { new-in = λ x. x; new-out = λ x. x; fits-in = λ x. x; fits-out = λ x. x; sound = λ c m. m; placed = tt; adds = λ e x. x }) a
-grows d m (or-form n f g) a = grows-form d m (or-form n f g) n (record { new-in = λ x. x; new-out = λ x. x; fits-in = λ x. x; fits-out = λ x. x; sound = λ c m. m; placed = tt; adds = λ e x. x }) a
-grows d m (next-form n u f) a = grows-form d m (next-form n u f) n (record { new-in = λ x. x; new-out = λ x. x; fits-in = λ x. x; fits-out = λ x. x; sound = λ c m. m; placed = tt; adds = λ e x. x }) a
-grows d m (until-form n f p g) a = grows-form d m (until-form n f p g) n (record { new-in = λ x. x; new-out = λ x. x; fits-in = λ x. x; fits-out = λ x. x; sound = λ c m. m; placed = tt; adds = λ e x. x }) a
+grows d m (act_line n) a = subst (Grows d (act_line n)) (sym a) (by_act n)
+grows d m (prop_line n) a = subst (Grows d (prop_line n)) (sym a) (by_prop n)
+grows d m (goal_line n) a = absurd a
+grows d m (prog_line n text) a = subst (Grows d (prog_line n text)) (sym a.2) (by_prog n text a.0 a.1)
+grows d m (true_form n) a = grows_form d m (true_form n) n (record { new_in = λ x. x; new_out = λ x. x; fits_in = λ x. x; fits_out = λ x. x; sound = λ c m. m; placed = tt; adds = λ e x. x }) a
+grows d m (prop_form n p) a = grows_form d m (prop_form n p) n (record { new_in = λ x. x; new_out = λ x. x; fits_in = λ x. x; fits_out = λ x. x; sound = λ c m. m; placed = tt; adds = λ e x. x }) a
+grows d m (not_form n f) a = grows_form d m (not_form n f) n (record { new_in = λ x. x; new_out = λ x. x; fits_in = λ x. x; fits_out = λ x. x; sound = λ c m. m; placed = tt; adds = λ e x. x }) a
+grows d m (and_form n f g) a = grows_form d m (and_form n f g) n (record { new_in = λ x. x; new_out = λ x. x; fits_in = λ x. x; fits_out = λ x. x; sound = λ c m. m; placed = tt; adds = λ e x. x }) a
+grows d m (or_form n f g) a = grows_form d m (or_form n f g) n (record { new_in = λ x. x; new_out = λ x. x; fits_in = λ x. x; fits_out = λ x. x; sound = λ c m. m; placed = tt; adds = λ e x. x }) a
+grows d m (next_form n u f) a = grows_form d m (next_form n u f) n (record { new_in = λ x. x; new_out = λ x. x; fits_in = λ x. x; fits_out = λ x. x; sound = λ c m. m; placed = tt; adds = λ e x. x }) a
+grows d m (until_form n f p g) a = grows_form d m (until_form n f p g) n (record { new_in = λ x. x; new_out = λ x. x; fits_in = λ x. x; fits_out = λ x. x; sound = λ c m. m; placed = tt; adds = λ e x. x }) a
 
 -- forms speak of what is declared before them
 pub record Sound (d : Declarations) : Type 0 where
-  pub same-progs : length (d .prog-names) ≡ length (d .progs)
-  pub same-forms : length (d .form-names) ≡ length (d .forms)
-  pub refers : (e : ℕ) → e < length (d .forms) → Earlier (length (d .props)) (length (d .acts)) (length (d .progs)) e (getD (d .forms) e True)
+  pub same_progs : length d.prog_names ≡ length d.progs
+  pub same_forms : length d.form_names ≡ length d.forms
+  pub refers : (e : ℕ) → e < length d.forms → Earlier (length d.props) (length d.acts) (length d.progs) e (get_or d.forms e True)
 
-pub sound-nothing : Sound nothing
-sound-nothing = record { same-progs = refl; same-forms = refl; refers = λ e h. absurd (omega arith) }
+pub sound_nothing : Sound nothing
+sound_nothing = record { same_progs = refl; same_forms = refl; refers = λ e h. absurd (omega arith) }
 
-earlier-more : (props acts progs props′ acts′ progs′ e : ℕ) (f : Form) → props ≤ props′ → acts ≤ acts′ → progs ≤ progs′ → Earlier props acts progs e f → Earlier props′ acts′ progs′ e f
-earlier-more props acts progs props′ acts′ progs′ e True a b c h = tt
-earlier-more props acts progs props′ acts′ progs′ e (Prop p) a b c h = omega arith
-earlier-more props acts progs props′ acts′ progs′ e (Not f) a b c h = h
-earlier-more props acts progs props′ acts′ progs′ e (And f g) a b c h = h
-earlier-more props acts progs props′ acts′ progs′ e (Or f g) a b c h = h
-earlier-more props acts progs props′ acts′ progs′ e (Next u f) a b c h = (omega (arith, h .0), h .1)
-earlier-more props acts progs props′ acts′ progs′ e (Until f p g) a b c h = (h .0, omega (arith, h .1), h .2)
+earlier_more : (props acts progs props' acts' progs' e : ℕ) (f : Form) → props ≤ props' → acts ≤ acts' → progs ≤ progs' → Earlier props acts progs e f → Earlier props' acts' progs' e f
+earlier_more props acts progs props' acts' progs' e True a b c h = tt
+earlier_more props acts progs props' acts' progs' e (Prop p) a b c h = omega arith
+earlier_more props acts progs props' acts' progs' e (Not f) a b c h = h
+earlier_more props acts progs props' acts' progs' e (And f g) a b c h = h
+earlier_more props acts progs props' acts' progs' e (Or f g) a b c h = h
+earlier_more props acts progs props' acts' progs' e (Next u f) a b c h = (omega (arith, h.0), h.1)
+earlier_more props acts progs props' acts' progs' e (Until f p g) a b c h = (h.0, omega (arith, h.1), h.2)
 
 -- the form that a line declares speaks of what is declared
-form-earlier : (d : Declarations) (x : Line) (f : Form) → Sound d → Form-of d x f → Earlier (length (d .props)) (length (d .acts)) (length (d .progs)) (length (d .forms)) f
-form-earlier d (act-line n) f s h = absurd h
-form-earlier d (prop-line n) f s h = absurd h
-form-earlier d (goal-line n) f s h = absurd h
-form-earlier d (prog-line n p) f s h = absurd h
-form-earlier d (true-form n) f s h = rw h tt
-form-earlier d (prop-form n p) f s h = rw (h .2) (h .1 .0)
-form-earlier d (not-form n p) f s h = rw (h .2) (omega (arith, s .same-forms, h .1 .0))
-form-earlier d (and-form n p q) f s h = rw (h .4) (omega (arith, s .same-forms, h .2 .0), omega (arith, s .same-forms, h .3 .0))
-form-earlier d (or-form n p q) f s h = rw (h .4) (omega (arith, s .same-forms, h .2 .0), omega (arith, s .same-forms, h .3 .0))
-form-earlier d (next-form n u q) f s h = rw (h .4) (h .2 .0, omega (arith, s .same-forms, h .3 .0))
-form-earlier d (until-form n p r q) f s h =
-    rw (h .6) (omega (arith, s .same-forms, h .3 .0), omega (arith, s .same-progs, h .4 .0), omega (arith, s .same-forms, h .5 .0))
+form_earlier : (d : Declarations) (x : Line) (f : Form) → Sound d → FormOf d x f → Earlier (length d.props) (length d.acts) (length d.progs) (length d.forms) f
+form_earlier d (act_line n) f s h = absurd h
+form_earlier d (prop_line n) f s h = absurd h
+form_earlier d (goal_line n) f s h = absurd h
+form_earlier d (prog_line n p) f s h = absurd h
+form_earlier d (true_form n) f s h = rw h tt
+form_earlier d (prop_form n p) f s h = rw h.2 h.1.0
+form_earlier d (not_form n p) f s h = rw h.2 (omega (arith, s.same_forms, h.1.0))
+form_earlier d (and_form n p q) f s h = rw h.4 (omega (arith, s.same_forms, h.2.0), omega (arith, s.same_forms, h.3.0))
+form_earlier d (or_form n p q) f s h = rw h.4 (omega (arith, s.same_forms, h.2.0), omega (arith, s.same_forms, h.3.0))
+form_earlier d (next_form n u q) f s h = rw h.4 (h.2.0, omega (arith, s.same_forms, h.3.0))
+form_earlier d (until_form n p r q) f s h =
+    rw h.6 (omega (arith, s.same_forms, h.3.0), omega (arith, s.same_progs, h.4.0), omega (arith, s.same_forms, h.5.0))
 
-sound-grows : (d m : Declarations) (x : Line) → Sound d → Grows d x m → Sound m
-sound-grows d m x s (by-act n) =
-    let long = length-push (d .acts) n in
+sound_grows : (d m : Declarations) (x : Line) → Sound d → Grows d x m → Sound m
+sound_grows d m x s (by_act n) =
+    let long = length_push d.acts n in
     record {
-      same-progs = s .same-progs;
-      same-forms = s .same-forms;
-      refers = λ e h. earlier-more (length (d .props)) (length (d .acts)) (length (d .progs)) _ _ _ e (getD (d .forms) e True) (omega arith) (omega arith) (omega arith) (s .refers e h);
+      same_progs = s.same_progs;
+      same_forms = s.same_forms;
+      refers = λ e h. earlier_more (length d.props) (length d.acts) (length d.progs) _ _ _ e (get_or d.forms e True) (omega arith) (omega arith) (omega arith) (s.refers e h);
     }
-sound-grows d m x s (by-prop n) =
-    let long = length-push (d .props) n in
+sound_grows d m x s (by_prop n) =
+    let long = length_push d.props n in
     record {
-      same-progs = s .same-progs;
-      same-forms = s .same-forms;
-      refers = λ e h. earlier-more (length (d .props)) (length (d .acts)) (length (d .progs)) (length (d .props ++ n ∷ [])) (length (d .acts)) (length (d .progs)) e (getD (d .forms) e True) (omega arith) (omega arith) (omega arith) (s .refers e h);
+      same_progs = s.same_progs;
+      same_forms = s.same_forms;
+      refers = λ e h. earlier_more (length d.props) (length d.acts) (length d.progs) (length (d.props ++ n ∷ [])) (length d.acts) (length d.progs) e (get_or d.forms e True) (omega arith) (omega arith) (omega arith) (s.refers e h);
     }
-sound-grows d m x s (by-prog n text p h) =
-    let a = length-push (d .prog-names) n in
-    let b = length-push (d .progs) p in
+sound_grows d m x s (by_prog n text p h) =
+    let a = length_push d.prog_names n in
+    let b = length_push d.progs p in
     record {
-      same-progs = omega (arith, s .same-progs);
-      same-forms = s .same-forms;
-      refers = λ e l. earlier-more (length (d .props)) (length (d .acts)) (length (d .progs)) (length (d .props)) (length (d .acts)) (length (d .progs ++ p ∷ [])) e (getD (d .forms) e True) (omega arith) (omega arith) (omega arith) (s .refers e l);
+      same_progs = omega (arith, s.same_progs);
+      same_forms = s.same_forms;
+      refers = λ e l. earlier_more (length d.props) (length d.acts) (length d.progs) (length d.props) (length d.acts) (length (d.progs ++ p ∷ [])) e (get_or d.forms e True) (omega arith) (omega arith) (omega arith) (s.refers e l);
     }
-sound-grows d m x s (by-form y n f t h) =
-    let a = length-push (d .form-names) n in
-    let b = length-push (d .forms) f in
+sound_grows d m x s (by_form y n f t h) =
+    let a = length_push d.form_names n in
+    let b = length_push d.forms f in
     record {
-      same-progs = s .same-progs;
-      same-forms = omega (arith, s .same-forms);
+      same_progs = s.same_progs;
+      same_forms = omega (arith, s.same_forms);
       refers = λ e l.
-          ⊎-elim
-          (λ (same : e ≡ length (d .forms)).
-          subst (λ (v : Form). Earlier (length (d .props)) (length (d .acts)) (length (d .progs)) e v) (sym (getD-push (d .forms) f True e (sym same)))
-          (subst (λ (v : ℕ). Earlier (length (d .props)) (length (d .acts)) (length (d .progs)) v f) (sym same) (form-earlier d y f s h)))
-          (λ (ne : e ≢ length (d .forms)).
-          subst (λ (v : Form). Earlier (length (d .props)) (length (d .acts)) (length (d .progs)) e v) (sym (getD-append-left (d .forms) (f ∷ []) True e (omega arith)))
-          (s .refers e (omega arith)))
-          (cases-eq e (length (d .forms)));
+          ⊎_elim
+          (λ (same : e ≡ length d.forms).
+          subst (λ (v : Form). Earlier (length d.props) (length d.acts) (length d.progs) e v) (sym (get_or_push d.forms f True e (sym same)))
+          (subst (λ (v : ℕ). Earlier (length d.props) (length d.acts) (length d.progs) v f) (sym same) (form_earlier d y f s h)))
+          (λ (ne : e ≢ length d.forms).
+          subst (λ (v : Form). Earlier (length d.props) (length d.acts) (length d.progs) e v) (sym (get_or_append_left d.forms (f ∷ []) True e (omega arith)))
+          (s.refers e (omega arith)))
+          (cases_eq e (length d.forms));
     }
 
-pub sound-adds : (d m : Declarations) (x : Line) → Sound d → Adds d x m → Sound m
-sound-adds d m x s a = sound-grows d m x s (grows d m x a)
+pub sound_adds : (d m : Declarations) (x : Line) → Sound d → Adds d x m → Sound m
+sound_adds d m x s a = sound_grows d m x s (grows d m x a)
 
 -- within the limits
 pub record Limits (d : Declarations) : Type 0 where
-  pub few-acts : length (d .acts) ≤ 16
-  pub few-props : length (d .props) ≤ 16
-  pub few-progs : length (d .progs) ≤ 16
-  pub few-forms : length (d .forms) ≤ 64
-  pub short : (p : ℕ) → p < length (d .progs) → length (names (getD (d .progs) p (act 0))) ≤ 15
-  pub light : weight (d .progs) (d .forms) ≤ 256
+  pub few_acts : length d.acts ≤ 16
+  pub few_props : length d.props ≤ 16
+  pub few_progs : length d.progs ≤ 16
+  pub few_forms : length d.forms ≤ 64
+  pub short : (p : ℕ) → p < length d.progs → length (names (get_or d.progs p (act 0))) ≤ 15
+  pub light : weight d.progs d.forms ≤ 256
 
-pub limits-nothing : Limits nothing
-limits-nothing = record { few-acts = omega arith; few-props = omega arith; few-progs = omega arith; few-forms = omega arith; short = λ p h. absurd (omega arith); light = omega arith }
+pub limits_nothing : Limits nothing
+limits_nothing = record { few_acts = omega arith; few_props = omega arith; few_progs = omega arith; few_forms = omega arith; short = λ p h. absurd (omega arith); light = omega arith }
 
 -- one program more leaves the weight
-kept : (d : Declarations) (p : Program) → Sound d → weight (d .progs ++ p ∷ []) (d .forms) ≡ weight (d .progs) (d .forms)
+kept : (d : Declarations) (p : Program) → Sound d → weight (d.progs ++ p ∷ []) d.forms ≡ weight d.progs d.forms
 kept d p s =
-    weight-kept (d .progs) p (length (d .props)) (length (d .acts)) 0 (d .forms) (λ i l. subst (λ v. Earlier (length (d .props)) (length (d .acts)) (length (d .progs)) v (getD (d .forms) i True)) (sym (zero-add i)) (s .refers i l))
+    weight_kept d.progs p (length d.props) (length d.acts) 0 d.forms (λ i l. subst (λ v. Earlier (length d.props) (length d.acts) (length d.progs) v (get_or d.forms i True)) (sym (zero-add i)) (s.refers i l))
 
-limits-grows : (d m : Declarations) (x : Line) → Sound d → Limits d → Fine d x → Grows d x m → Limits m
-limits-grows d m x s h fine (by-act n) =
-    let long = length-push (d .acts) n in
-    record { few-acts = omega (arith, fine .within); few-props = h .few-props; few-progs = h .few-progs; few-forms = h .few-forms; short = h .short; light = h .light }
-limits-grows d m x s h fine (by-prop n) =
-    let long = length-push (d .props) n in
-    record { few-acts = h .few-acts; few-props = omega (arith, fine .within); few-progs = h .few-progs; few-forms = h .few-forms; short = h .short; light = h .light }
-limits-grows d m x s h fine (by-prog n text p says) =
-    let long = length-push (d .progs) p in
+limits_grows : (d m : Declarations) (x : Line) → Sound d → Limits d → Fine d x → Grows d x m → Limits m
+limits_grows d m x s h fine (by_act n) =
+    let long = length_push d.acts n in
+    record { few_acts = omega (arith, fine.within); few_props = h.few_props; few_progs = h.few_progs; few_forms = h.few_forms; short = h.short; light = h.light }
+limits_grows d m x s h fine (by_prop n) =
+    let long = length_push d.props n in
+    record { few_acts = h.few_acts; few_props = omega (arith, fine.within); few_progs = h.few_progs; few_forms = h.few_forms; short = h.short; light = h.light }
+limits_grows d m x s h fine (by_prog n text p says) =
+    let long = length_push d.progs p in
     record {
-      few-acts = h .few-acts;
-      few-props = h .few-props;
-      few-progs = omega (arith, fine .within .0);
-      few-forms = h .few-forms;
+      few_acts = h.few_acts;
+      few_props = h.few_props;
+      few_progs = omega (arith, fine.within.0);
+      few_forms = h.few_forms;
       short = λ i l.
-          ⊎-elim
-          (λ (same : i ≡ length (d .progs)). subst (λ (v : Program). length (names v) ≤ 15) (sym (getD-push (d .progs) p (act 0) i (sym same))) (fine .within .1 p says))
-          (λ (ne : i ≢ length (d .progs)).
-          subst (λ (v : Program). length (names v) ≤ 15) (sym (getD-append-left (d .progs) (p ∷ []) (act 0) i (omega arith))) (h .short i (omega arith)))
-          (cases-eq i (length (d .progs)));
-      light = omega (arith, kept d p s, h .light);
+          ⊎_elim
+          (λ (same : i ≡ length d.progs). subst (λ (v : Program). length (names v) ≤ 15) (sym (get_or_push d.progs p (act 0) i (sym same))) (fine.within.1 p says))
+          (λ (ne : i ≢ length d.progs).
+          subst (λ (v : Program). length (names v) ≤ 15) (sym (get_or_append_left d.progs (p ∷ []) (act 0) i (omega arith))) (h.short i (omega arith)))
+          (cases_eq i (length d.progs));
+      light = omega (arith, kept d p s, h.light);
     }
-limits-grows d m x s h fine (by-form y n f t is) =
-    let long = length-push (d .forms) f in
-    let w = t .fits-out (fine .within) in
-    record { few-acts = h .few-acts; few-props = h .few-props; few-progs = h .few-progs; few-forms = omega (arith, w .0); short = h .short; light = w .1 f is }
+limits_grows d m x s h fine (by_form y n f t is) =
+    let long = length_push d.forms f in
+    let w = t.fits_out fine.within in
+    record { few_acts = h.few_acts; few_props = h.few_props; few_progs = h.few_progs; few_forms = omega (arith, w.0); short = h.short; light = w.1 f is }
 
-pub limits-adds : (d m : Declarations) (x : Line) → Sound d → Limits d → Fine d x → Adds d x m → Limits m
-limits-adds d m x s h fine a = limits-grows d m x s h fine (grows d m x a)
+pub limits_adds : (d m : Declarations) (x : Line) → Sound d → Limits d → Fine d x → Adds d x m → Limits m
+limits_adds d m x s h fine a = limits_grows d m x s h fine (grows d m x a)
 
 -- where one more declaration is within the limits, the line is fine, and all before it is within them too
 abbrev Back : Declarations → Line → Type 0
 Back d x = Fine d x × Limits d
 
-back-grows : (d m : Declarations) (x : Line) → Sound d → Well-named d x → Grows d x m → Limits m → Back d x
-back-grows d m x s well (by-act n) h =
-    let long = length-push (d .acts) n in (
-      record { spelled = λ c e. e; well-named = well; within = omega (arith, h .few-acts); in-place = tt },
-      record { few-acts = omega (arith, h .few-acts); few-props = h .few-props; few-progs = h .few-progs; few-forms = h .few-forms; short = h .short; light = h .light },
+back_grows : (d m : Declarations) (x : Line) → Sound d → WellNamed d x → Grows d x m → Limits m → Back d x
+back_grows d m x s well (by_act n) h =
+    let long = length_push d.acts n in (
+      record { spelled = λ c e. e; well_named = well; within = omega (arith, h.few_acts); in_place = tt },
+      record { few_acts = omega (arith, h.few_acts); few_props = h.few_props; few_progs = h.few_progs; few_forms = h.few_forms; short = h.short; light = h.light },
     )
-back-grows d m x s well (by-prop n) h =
-    let long = length-push (d .props) n in (
-      record { spelled = λ c e. e; well-named = well; within = omega (arith, h .few-props); in-place = tt },
-      record { few-acts = h .few-acts; few-props = omega (arith, h .few-props); few-progs = h .few-progs; few-forms = h .few-forms; short = h .short; light = h .light },
+back_grows d m x s well (by_prop n) h =
+    let long = length_push d.props n in (
+      record { spelled = λ c e. e; well_named = well; within = omega (arith, h.few_props); in_place = tt },
+      record { few_acts = h.few_acts; few_props = omega (arith, h.few_props); few_progs = h.few_progs; few_forms = h.few_forms; short = h.short; light = h.light },
     )
-back-grows d m x s well (by-prog n text p says) h =
-    let long = length-push (d .progs) p in
-    let last : length (names p) ≤ 15 = subst (λ (v : Program). length (names v) ≤ 15) (getD-push (d .progs) p (act 0) (length (d .progs)) refl) (h .short (length (d .progs)) (omega arith)) in (
+back_grows d m x s well (by_prog n text p says) h =
+    let long = length_push d.progs p in
+    let last : length (names p) ≤ 15 = subst (λ (v : Program). length (names v) ≤ 15) (get_or_push d.progs p (act 0) (length d.progs) refl) (h.short (length d.progs) (omega arith)) in (
       record {
-        spelled = λ c e. e .unwell (says .0, says .1);
-        well-named = well;
-        within = (omega (arith, h .few-progs), λ q other. subst (λ (v : Program). length (names v) ≤ 15) (one-program text (d .acts) p q says other) last);
-        in-place = tt;
+        spelled = λ c e. e.unwell (says.0, says.1);
+        well_named = well;
+        within = (omega (arith, h.few_progs), λ q other. subst (λ (v : Program). length (names v) ≤ 15) (one_program text d.acts p q says other) last);
+        in_place = tt;
       },
       record {
-        few-acts = h .few-acts;
-        few-props = h .few-props;
-        few-progs = omega (arith, h .few-progs);
-        few-forms = h .few-forms;
-        short = λ i l. subst (λ (v : Program). length (names v) ≤ 15) (getD-append-left (d .progs) (p ∷ []) (act 0) i l) (h .short i (omega arith));
-        light = omega (arith, kept d p s, h .light);
+        few_acts = h.few_acts;
+        few_props = h.few_props;
+        few_progs = omega (arith, h.few_progs);
+        few_forms = h.few_forms;
+        short = λ i l. subst (λ (v : Program). length (names v) ≤ 15) (get_or_append_left d.progs (p ∷ []) (act 0) i l) (h.short i (omega arith));
+        light = omega (arith, kept d p s, h.light);
       },
     )
-back-grows d m x s well (by-form y n f t is) h =
-    let long = length-push (d .forms) f in
-    let more = weight-push (d .progs) (d .forms) f in (
+back_grows d m x s well (by_form y n f t is) h =
+    let long = length_push d.forms f in
+    let more = weight_push d.progs d.forms f in (
       record {
-        spelled = t .sound;
-        well-named = well;
-        within = t .fits-in
-            (omega (arith, h .few-forms), λ g other. subst (λ (v : Form). weight (d .progs) (d .forms ++ v ∷ []) ≤ 256) (one-form d y f g is other) (h .light));
-        in-place = t .placed;
+        spelled = t.sound;
+        well_named = well;
+        within = t.fits_in
+            (omega (arith, h.few_forms), λ g other. subst (λ (v : Form). weight d.progs (d.forms ++ v ∷ []) ≤ 256) (one_form d y f g is other) h.light);
+        in_place = t.placed;
       },
-      record { few-acts = h .few-acts; few-props = h .few-props; few-progs = h .few-progs; few-forms = omega (arith, h .few-forms); short = h .short; light = omega (arith, h .light) },
+      record { few_acts = h.few_acts; few_props = h.few_props; few_progs = h.few_progs; few_forms = omega (arith, h.few_forms); short = h.short; light = omega (arith, h.light) },
     )
 
-pub back : (d m : Declarations) (x : Line) → Sound d → Well-named d x → Adds d x m → Limits m → Fine d x × Limits d
-back d m x s well a h = back-grows d m x s well (grows d m x a) h
+pub back : (d m : Declarations) (x : Line) → Sound d → WellNamed d x → Adds d x m → Limits m → Fine d x × Limits d
+back d m x s well a h = back_grows d m x s well (grows d m x a) h

@@ -1,114 +1,109 @@
 -- What is held in memory, and what one more declaration leaves of it.
-use mathlib.Core.Path.{_≡_, refl, sym, ap, subst, _∙_}
-use mathlib.Core.List.{List, [], _∷_, _++_}
-use Prim.Native.Nat.{ℕ, suc, _+_, _*_, _<_}
-use native.Mathlib.Omega.{arith}
-use lib.Dec.{ltb}
-use lib.ListN.{length, getD, take}
-use Rattle·std.proofs.shelf.Lists.{getD-append-left, getD-take, length-take-le}
-use Rattle·std.proofs.shelf.Tests.{cond-true, lt-ltb}
-use Rattle·program.specs.Automata.{names}
-use Rattle·program.specs.Rows.{Row-of}
-use Rattle·program.specs.RowStates.{statesOf}
-use Rattle·program.specs.Words.{Program, act}
-use Rattle·program.specs.declared.row.Row.{Row}
-use Rattle·document·specs.Documents.{weight, weight-of}
-use Rattle·document·specs.Forms.{Earlier, formAt, rowAt, weightOf}
-use Rattle·document·specs.Holds.{Holds}
-use Rattle·document·specs.Kept.{names-of}
-use Rattle·document·specs.Lines.{Declarations}
-use Rattle·document·specs.declared.declared.Declared.{Declared}
-use Rattle·document·specs.declared.form.Form.{Form}
-use Rattle·document·specs.declared.form.Form.the-variants.{True, Prop, Not, And, Or, Next, Until}
-use Rattle·document·proofs.Operands.{earlier-so}
-use Rattle·document·proofs.Spellings.{length-spellings}
+use Rattle.std.proofs.Common.{◌≡◌, ℕ, suc, ◌+◌, ◌*◌, ◌<◌, ltb, List, [], ◌∷◌, ◌++◌, length, get_or, take, sym, refl, ap, ◌∙◌, subst, arith}
+use Rattle.std.proofs.lemmas.List.{get_or_append_left, get_or-take, length-take-le}
+use Rattle.std.proofs.lemmas.Bool.{cond-true, lt-ltb}
+use Rattle.program.specs.Automata.{names}
+use Rattle.program.specs.Rows.{RowOf}
+use Rattle.program.specs.RowStates.{states_in}
+use Rattle.program.specs.Words.{Program, act}
+use Rattle.program.specs.declared.row.Row.{Row}
+use Rattle.document.specs.Documents.{weight, weight_of}
+use Rattle.document.specs.Forms.{Earlier, form_in, row_at, weight_in}
+use Rattle.document.specs.Holds.{Holds}
+use Rattle.document.specs.Kept.{names_of}
+use Rattle.document.specs.Lines.{Declarations}
+use Rattle.document.specs.declared.declared.Declared.{Declared}
+use Rattle.document.specs.declared.form.Form.{Form}
+use Rattle.document.specs.declared.form.Form.TheVariants.{True, Prop, Not, And, Or, Next, Until}
+use Rattle.document.proofs.Operands.{earlier_so}
+use Rattle.document.proofs.Spellings.{length_spellings}
 
 -- the declarations that are held, where these are the programs
 abbrev pub told : Declared → List Program → Declarations
 told held ps =
     record {
-      acts = names-of (held .acts);
-      props = names-of (held .props);
-      prog-names = names-of (held .progs);
+      acts = names_of held.acts;
+      props = names_of held.props;
+      prog_names = names_of held.progs;
       progs = ps;
-      form-names = names-of (held .forms);
-      forms = take (held .forms .count) (held .lines);
+      form_names = names_of held.forms;
+      forms = take held.forms.count held.lines;
     }
 
-pub same : (x y : Declarations) → x .acts ≡ y .acts → x .props ≡ y .props → x .prog-names ≡ y .prog-names → x .progs ≡ y .progs → x .form-names ≡ y .form-names → x .forms ≡ y .forms → x ≡ y
+pub same : (x y : Declarations) → x.acts ≡ y.acts → x.props ≡ y.props → x.prog_names ≡ y.prog_names → x.progs ≡ y.progs → x.form_names ≡ y.form_names → x.forms ≡ y.forms → x ≡ y
 same x y a b c d e f =
-    ap (λ v. record { acts = v; props = x .props; prog-names = x .prog-names; progs = x .progs; form-names = x .form-names; forms = x .forms }) a
-    ∙ ap (λ v. record { acts = y .acts; props = v; prog-names = x .prog-names; progs = x .progs; form-names = x .form-names; forms = x .forms }) b
-    ∙ ap (λ v. record { acts = y .acts; props = y .props; prog-names = v; progs = x .progs; form-names = x .form-names; forms = x .forms }) c
-    ∙ ap (λ v. record { acts = y .acts; props = y .props; prog-names = y .prog-names; progs = v; form-names = x .form-names; forms = x .forms }) d
-    ∙ ap (λ v. record { acts = y .acts; props = y .props; prog-names = y .prog-names; progs = y .progs; form-names = v; forms = x .forms }) e
-    ∙ ap (λ v. record { acts = y .acts; props = y .props; prog-names = y .prog-names; progs = y .progs; form-names = y .form-names; forms = v }) f
+    ap (λ v. record { acts = v; props = x.props; prog_names = x.prog_names; progs = x.progs; form_names = x.form_names; forms = x.forms }) a
+    ∙ ap (λ v. record { acts = y.acts; props = v; prog_names = x.prog_names; progs = x.progs; form_names = x.form_names; forms = x.forms }) b
+    ∙ ap (λ v. record { acts = y.acts; props = y.props; prog_names = v; progs = x.progs; form_names = x.form_names; forms = x.forms }) c
+    ∙ ap (λ v. record { acts = y.acts; props = y.props; prog_names = y.prog_names; progs = v; form_names = x.form_names; forms = x.forms }) d
+    ∙ ap (λ v. record { acts = y.acts; props = y.props; prog_names = y.prog_names; progs = y.progs; form_names = v; forms = x.forms }) e
+    ∙ ap (λ v. record { acts = y.acts; props = y.props; prog_names = y.prog_names; progs = y.progs; form_names = y.form_names; forms = v }) f
 
-pub told-is : (held : Declared) (d : Declarations) → Holds held d → told held (d .progs) ≡ d
-told-is held d h = same (told held (d .progs)) d (sym (h .acts)) (sym (h .props)) (sym (h .prog-names)) refl (sym (h .form-names)) (sym (h .forms))
+pub told_is : (held : Declared) (d : Declarations) → Holds held d → told held d.progs ≡ d
+told_is held d h = same (told held d.progs) d (sym h.acts) (sym h.props) (sym h.prog_names) refl (sym h.form_names) (sym h.forms)
 
 -- what holds of what is held, whatever the programs are, holds of all declarations that are held
-pub of-all : (held : Declared) (P : Declarations → Type 0) → ((ps : List Program) → Holds held (told held ps) → P (told held ps)) → (d : Declarations) → Holds held d → P d
-of-all held P f d h = let e = told-is held d h in subst P e (f (d .progs) (subst (Holds held) (sym e) h))
+pub of_all : (held : Declared) (P : Declarations → Type 0) → ((ps : List Program) → Holds held (told held ps) → P (told held ps)) → (d : Declarations) → Holds held d → P d
+of_all held P f d h = let e = told_is held d h in subst P e (f d.progs (subst (Holds held) (sym e) h))
 
 -- how many names of each kind
-pub acts-long : (held : Declared) → length (names-of (held .acts)) ≡ held .acts .count
-acts-long held = length-spellings (held .acts .count) (held .acts .list) (omega (arith, held .acts .few, held .acts .room))
+pub acts_long : (held : Declared) → length (names_of held.acts) ≡ held.acts.count
+acts_long held = length_spellings held.acts.count held.acts.list (omega (arith, held.acts.few, held.acts.room))
 
-pub props-long : (held : Declared) → length (names-of (held .props)) ≡ held .props .count
-props-long held = length-spellings (held .props .count) (held .props .list) (omega (arith, held .props .few, held .props .room))
+pub props_long : (held : Declared) → length (names_of held.props) ≡ held.props.count
+props_long held = length_spellings held.props.count held.props.list (omega (arith, held.props.few, held.props.room))
 
-pub progs-long : (held : Declared) → length (names-of (held .progs)) ≡ held .progs .count
-progs-long held = length-spellings (held .progs .count) (held .progs .list) (omega (arith, held .progs .few, held .progs .room))
+pub progs_long : (held : Declared) → length (names_of held.progs) ≡ held.progs.count
+progs_long held = length_spellings held.progs.count held.progs.list (omega (arith, held.progs.few, held.progs.room))
 
-pub form-names-long : (held : Declared) → length (names-of (held .forms)) ≡ held .forms .count
-form-names-long held = length-spellings (held .forms .count) (held .forms .list) (omega (arith, held .forms .few, held .forms .room))
+pub form_names_long : (held : Declared) → length (names_of held.forms) ≡ held.forms.count
+form_names_long held = length_spellings held.forms.count held.forms.list (omega (arith, held.forms.few, held.forms.room))
 
-pub forms-long : (held : Declared) → length (take (held .forms .count) (held .lines)) ≡ held .forms .count
-forms-long held = length-take-le (held .forms .count) (held .lines) (omega (arith, held .forms .few, held .room))
+pub forms_long : (held : Declared) → length (take held.forms.count held.lines) ≡ held.forms.count
+forms_long held = length-take-le held.forms.count held.lines (omega (arith, held.forms.few, held.room))
 
 -- the states of a row that is a program's
-row-states : (p : Program) (row : Row) → Row-of p row → statesOf row ≡ suc (length (names p))
-row-states p row h =
-    let less : row .names < 16 = omega (arith, h .count, h .few) in
-    cond-true (ltb (row .names) 16) (row .names + 1) 16 (lt-ltb (row .names) 16 less) ∙ omega (arith, h .count)
+row_states : (p : Program) (row : Row) → RowOf p row → states_in row ≡ suc (length (names p))
+row_states p row h =
+    let less : row.names < 16 = omega (arith, h.count, h.few) in
+    cond-true (ltb row.names 16) (row.names + 1) 16 (lt-ltb row.names 16 less) ∙ omega (arith, h.count)
 
 -- the weight of a form is that of its row
-pub weight-is : (ps : List Program) (rows : List Row) (props acts e : ℕ) (f : Form) → ((p : ℕ) → p < length ps → Row-of (getD ps p (act 0)) (rowAt rows p)) → Earlier props acts (length ps) e f
-    → weightOf rows f ≡ weight-of ps f
-weight-is ps rows props acts e True h k = refl
-weight-is ps rows props acts e (Prop p) h k = refl
-weight-is ps rows props acts e (Not f) h k = refl
-weight-is ps rows props acts e (And f g) h k = refl
-weight-is ps rows props acts e (Or f g) h k = refl
-weight-is ps rows props acts e (Next a f) h k = refl
-weight-is ps rows props acts e (Until f p g) h k = ap (λ n. 6 * n) (row-states (getD ps p (act 0)) (rowAt rows p) (h p (k .1)))
+pub weight_is : (ps : List Program) (rows : List Row) (props acts e : ℕ) (f : Form) → ((p : ℕ) → p < length ps → RowOf (get_or ps p (act 0)) (row_at rows p)) → Earlier props acts (length ps) e f
+    → weight_in rows f ≡ weight_of ps f
+weight_is ps rows props acts e True h k = refl
+weight_is ps rows props acts e (Prop p) h k = refl
+weight_is ps rows props acts e (Not f) h k = refl
+weight_is ps rows props acts e (And f g) h k = refl
+weight_is ps rows props acts e (Or f g) h k = refl
+weight_is ps rows props acts e (Next a f) h k = refl
+weight_is ps rows props acts e (Until f p g) h k = ap (λ n. 6 * n) (row_states (get_or ps p (act 0)) (row_at rows p) (h p k.1))
 
 -- one program more leaves the weight of a form
-weight-of-kept : (ps : List Program) (q : Program) (props acts e : ℕ) (f : Form) → Earlier props acts (length ps) e f → weight-of (ps ++ q ∷ []) f ≡ weight-of ps f
-weight-of-kept ps q props acts e True k = refl
-weight-of-kept ps q props acts e (Prop p) k = refl
-weight-of-kept ps q props acts e (Not f) k = refl
-weight-of-kept ps q props acts e (And f g) k = refl
-weight-of-kept ps q props acts e (Or f g) k = refl
-weight-of-kept ps q props acts e (Next a f) k = refl
-weight-of-kept ps q props acts e (Until f p g) k = ap (λ r. 6 * suc (length (names r))) (getD-append-left ps (q ∷ []) (act 0) p (k .1))
+weight_of_kept : (ps : List Program) (q : Program) (props acts e : ℕ) (f : Form) → Earlier props acts (length ps) e f → weight_of (ps ++ q ∷ []) f ≡ weight_of ps f
+weight_of_kept ps q props acts e True k = refl
+weight_of_kept ps q props acts e (Prop p) k = refl
+weight_of_kept ps q props acts e (Not f) k = refl
+weight_of_kept ps q props acts e (And f g) k = refl
+weight_of_kept ps q props acts e (Or f g) k = refl
+weight_of_kept ps q props acts e (Next a f) k = refl
+weight_of_kept ps q props acts e (Until f p g) k = ap (λ r. 6 * suc (length (names r))) (get_or_append_left ps (q ∷ []) (act 0) p k.1)
 
-pub weight-kept : (ps : List Program) (q : Program) (props acts e : ℕ) (fs : List Form) → ((i : ℕ) → i < length fs → Earlier props acts (length ps) (e + i) (getD fs i True))
+pub weight_kept : (ps : List Program) (q : Program) (props acts e : ℕ) (fs : List Form) → ((i : ℕ) → i < length fs → Earlier props acts (length ps) (e + i) (get_or fs i True))
     → weight (ps ++ q ∷ []) fs ≡ weight ps fs
-weight-kept ps q props acts e [] h = refl
-weight-kept ps q props acts e (f ∷ fs) h =
-    let a = weight-of-kept ps q props acts (e + 0) f (h 0 (omega arith)) in
-    let b = weight-kept ps q props acts (suc e) fs (λ i l. let s : e + suc i ≡ suc e + i = omega arith in subst (λ v. Earlier props acts (length ps) v (getD fs i True)) s (h (suc i) (omega arith))) in
+weight_kept ps q props acts e [] h = refl
+weight_kept ps q props acts e (f ∷ fs) h =
+    let a = weight_of_kept ps q props acts (e + 0) f (h 0 (omega arith)) in
+    let b = weight_kept ps q props acts (suc e) fs (λ i l. let s : e + suc i ≡ suc e + i = omega arith in subst (λ v. Earlier props acts (length ps) v (get_or fs i True)) s (h (suc i) (omega arith))) in
     omega arith
 
-pub weight-push : (ps : List Program) (fs : List Form) (f : Form) → weight ps (fs ++ f ∷ []) ≡ weight ps fs + weight-of ps f
-weight-push ps [] f = omega arith
-weight-push ps (g ∷ fs) f = let h = weight-push ps fs f in omega arith
+pub weight_push : (ps : List Program) (fs : List Form) (f : Form) → weight ps (fs ++ f ∷ []) ≡ weight ps fs + weight_of ps f
+weight_push ps [] f = omega arith
+weight_push ps (g ∷ fs) f = let h = weight_push ps fs f in omega arith
 
 -- each form speaks of what is declared before it
-pub refers : (held : Declared) (e : ℕ) → e < held .forms .count
-    → Earlier (held .props .count) (held .acts .count) (held .progs .count) e (getD (take (held .forms .count) (held .lines)) e True)
+pub refers : (held : Declared) (e : ℕ) → e < held.forms.count
+    → Earlier held.props.count held.acts.count held.progs.count e (get_or (take held.forms.count held.lines) e True)
 refers held e h =
-    subst (Earlier (held .props .count) (held .acts .count) (held .progs .count) e) (sym (getD-take (held .forms .count) (held .lines) e True h))
-    (earlier-so (held .props .count) (held .acts .count) (held .progs .count) e (formAt (held .lines) e) (held .ordered e h))
+    subst (Earlier held.props.count held.acts.count held.progs.count e) (sym (get_or-take held.forms.count held.lines e True h))
+    (earlier_so held.props.count held.acts.count held.progs.count e (form_in held.lines e) (held.ordered e h))

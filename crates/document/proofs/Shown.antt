@@ -1,83 +1,77 @@
 -- The one reading that the fields of a line leave.
-use mathlib.Core.Path.{_≡_, refl, sym, ap, subst, _∙_}
-use mathlib.Core.Bool.{cond}
-use mathlib.Core.List.{List, []}
-use Prim.Native.Nat.{ℕ, _+_}
-use lib.Chars.{codes}
-use lib.Dec.{eqb}
-use lib.ListN.{length, getD}
-use Rattle·std.specs.shelf.Lists.{All}
-use Rattle·program.specs.Names.{Named}
-use Rattle·document·specs.Kinds.{word-of, form-with}
-use Rattle·document·specs.Lines.{Declarations, Line, act-line, prop-line, goal-line, prog-line, true-form, prop-form, not-form, and-form, or-form, next-form, until-form, shown, named-fields, Reads-as, Faulty, shape}
-use Rattle·document·specs.Texts.{fields}
-use Rattle·document·specs.declared.words.Kind.{Kind}
-use Rattle·document·specs.declared.words.Kind.the-variants.{True, Prop, Not, And, Or, Next, Until}
+use Rattle.std.proofs.Common.{◌≡◌, ℕ, ◌+◌, cond, eqb, List, [], length, get_or, codes, sym, refl, ap, ◌∙◌, subst}
+use Rattle.std.specs.List.{AllByRecursion as All}
+use Rattle.program.specs.Names.{Named}
+use Rattle.document.specs.Kinds.{word_of, form_with}
+use Rattle.document.specs.Lines.{Declarations, Line, act_line, prop_line, goal_line, prog_line, true_form, prop_form, not_form, and_form, or_form, next_form, until_form, shown, named_fields, ReadsAs, Faulty, shape}
+use Rattle.document.specs.Texts.{fields}
+use Rattle.document.specs.declared.words.Kind.{Kind}
+use Rattle.document.specs.declared.words.Kind.TheVariants.{True, Prop, Not, And, Or, Next, Until}
 
 -- the kind's word, told by its first two letters
-abbrev by-kind : List ℕ → List (List ℕ) → Line
-by-kind w fs =
-    let k = getD w 0 0 + getD w 1 0 in
-    cond (eqb k 230) (form-with True fs)
-    (cond (eqb k 226) (form-with Prop fs)
-    (cond (eqb k 221) (form-with Not fs)
-    (cond (eqb k 207) (form-with And fs) (cond (eqb k 225) (form-with Or fs) (cond (eqb k 211) (form-with Next fs) (form-with Until fs))))))
+abbrev by_kind : List ℕ → List (List ℕ) → Line
+by_kind w fs =
+    let k = get_or w 0 0 + get_or w 1 0 in
+    cond (eqb k 230) (form_with True fs)
+    (cond (eqb k 226) (form_with Prop fs)
+    (cond (eqb k 221) (form_with Not fs)
+    (cond (eqb k 207) (form_with And fs) (cond (eqb k 225) (form_with Or fs) (cond (eqb k 211) (form_with Next fs) (form_with Until fs))))))
 
 -- the first word, told by its fourth letter
-abbrev by-word : ℕ → List (List ℕ) → Line
-by-word w fs =
-    cond (eqb w 0) (act-line (getD fs 1 []))
-    (cond (eqb w 112) (prop-line (getD fs 1 []))
-    (cond (eqb w 103) (prog-line (getD fs 1 []) (getD fs 2 [])) (cond (eqb w 108) (goal-line (getD fs 1 [])) (by-kind (getD fs 2 []) fs))))
+abbrev by_word : ℕ → List (List ℕ) → Line
+by_word w fs =
+    cond (eqb w 0) (act_line (get_or fs 1 []))
+    (cond (eqb w 112) (prop_line (get_or fs 1 []))
+    (cond (eqb w 103) (prog_line (get_or fs 1 []) (get_or fs 2 [])) (cond (eqb w 108) (goal_line (get_or fs 1 [])) (by_kind (get_or fs 2 []) fs))))
 
 abbrev pub reading : List (List ℕ) → Line
-reading fs = by-word (getD (getD fs 0 []) 3 0) fs
+reading fs = by_word (get_or (get_or fs 0 []) 3 0) fs
 
-reading-shown : (x : Line) → reading (shown x) ≡ x
-reading-shown (act-line n) = refl
-reading-shown (prop-line n) = refl
-reading-shown (goal-line f) = refl
-reading-shown (prog-line n p) = refl
-reading-shown (true-form n) = refl
-reading-shown (prop-form n p) = refl
-reading-shown (not-form n f) = refl
-reading-shown (and-form n f g) = refl
-reading-shown (or-form n f g) = refl
-reading-shown (next-form n a f) = refl
-reading-shown (until-form n f p g) = refl
+reading_shown : (x : Line) → reading (shown x) ≡ x
+reading_shown (act_line n) = refl
+reading_shown (prop_line n) = refl
+reading_shown (goal_line f) = refl
+reading_shown (prog_line n p) = refl
+reading_shown (true_form n) = refl
+reading_shown (prop_form n p) = refl
+reading_shown (not_form n f) = refl
+reading_shown (and_form n f g) = refl
+reading_shown (or_form n f g) = refl
+reading_shown (next_form n a f) = refl
+reading_shown (until_form n f p g) = refl
 
-pub only : (bytes : List ℕ) (x : Line) → Reads-as bytes x → x ≡ reading (fields bytes)
-only bytes x r = sym (reading-shown x) ∙ ap reading (sym (r .0))
+pub only : (bytes : List ℕ) (x : Line) → ReadsAs bytes x → x ≡ reading (fields bytes)
+only bytes x r = sym (reading_shown x) ∙ ap reading (sym r.0)
 
 -- a line reads one way at most
-pub one-reading : (bytes : List ℕ) (x y : Line) → Reads-as bytes x → Reads-as bytes y → x ≡ y
-one-reading bytes x y r s = only bytes x r ∙ sym (only bytes y s)
+pub one_reading : (bytes : List ℕ) (x y : Line) → ReadsAs bytes x → ReadsAs bytes y → x ≡ y
+one_reading bytes x y r s = only bytes x r ∙ sym (only bytes y s)
 
-pub at-act : (fs : List (List ℕ)) → getD fs 0 [] ≡ codes "act" → reading fs ≡ act-line (getD fs 1 [])
-at-act fs e = ap (λ w. by-word (getD w 3 0) fs) e
+pub at_act : (fs : List (List ℕ)) → get_or fs 0 [] ≡ codes "act" → reading fs ≡ act_line (get_or fs 1 [])
+at_act fs e = ap (λ w. by_word (get_or w 3 0) fs) e
 
-pub at-prop : (fs : List (List ℕ)) → getD fs 0 [] ≡ codes "prop" → reading fs ≡ prop-line (getD fs 1 [])
-at-prop fs e = ap (λ w. by-word (getD w 3 0) fs) e
+pub at_prop : (fs : List (List ℕ)) → get_or fs 0 [] ≡ codes "prop" → reading fs ≡ prop_line (get_or fs 1 [])
+at_prop fs e = ap (λ w. by_word (get_or w 3 0) fs) e
 
-pub at-prog : (fs : List (List ℕ)) → getD fs 0 [] ≡ codes "prog" → reading fs ≡ prog-line (getD fs 1 []) (getD fs 2 [])
-at-prog fs e = ap (λ w. by-word (getD w 3 0) fs) e
+pub at_prog : (fs : List (List ℕ)) → get_or fs 0 [] ≡ codes "prog" → reading fs ≡ prog_line (get_or fs 1 []) (get_or fs 2 [])
+at_prog fs e = ap (λ w. by_word (get_or w 3 0) fs) e
 
-pub at-goal : (fs : List (List ℕ)) → getD fs 0 [] ≡ codes "goal" → reading fs ≡ goal-line (getD fs 1 [])
-at-goal fs e = ap (λ w. by-word (getD w 3 0) fs) e
+pub at_goal : (fs : List (List ℕ)) → get_or fs 0 [] ≡ codes "goal" → reading fs ≡ goal_line (get_or fs 1 [])
+at_goal fs e = ap (λ w. by_word (get_or w 3 0) fs) e
 
-pub at-form : (k : Kind) (fs : List (List ℕ)) → getD fs 0 [] ≡ codes "form" → getD fs 2 [] ≡ word-of k → reading fs ≡ form-with k fs
-at-form True fs e f = ap (λ w. by-word (getD w 3 0) fs) e ∙ ap (λ w. by-kind w fs) f
-at-form Prop fs e f = ap (λ w. by-word (getD w 3 0) fs) e ∙ ap (λ w. by-kind w fs) f
-at-form Not fs e f = ap (λ w. by-word (getD w 3 0) fs) e ∙ ap (λ w. by-kind w fs) f
-at-form And fs e f = ap (λ w. by-word (getD w 3 0) fs) e ∙ ap (λ w. by-kind w fs) f
-at-form Or fs e f = ap (λ w. by-word (getD w 3 0) fs) e ∙ ap (λ w. by-kind w fs) f
-at-form Next fs e f = ap (λ w. by-word (getD w 3 0) fs) e ∙ ap (λ w. by-kind w fs) f
-at-form Until fs e f = ap (λ w. by-word (getD w 3 0) fs) e ∙ ap (λ w. by-kind w fs) f
+pub at_form : (k : Kind) (fs : List (List ℕ)) → get_or fs 0 [] ≡ codes "form" → get_or fs 2 [] ≡ word_of k → reading fs ≡ form_with k fs
+at_form True fs e f = ap (λ w. by_word (get_or w 3 0) fs) e ∙ ap (λ w. by_kind w fs) f
+at_form Prop fs e f = ap (λ w. by_word (get_or w 3 0) fs) e ∙ ap (λ w. by_kind w fs) f
+at_form Not fs e f = ap (λ w. by_word (get_or w 3 0) fs) e ∙ ap (λ w. by_kind w fs) f
+at_form And fs e f = ap (λ w. by_word (get_or w 3 0) fs) e ∙ ap (λ w. by_kind w fs) f
+at_form Or fs e f = ap (λ w. by_word (get_or w 3 0) fs) e ∙ ap (λ w. by_kind w fs) f
+at_form Next fs e f = ap (λ w. by_word (get_or w 3 0) fs) e ∙ ap (λ w. by_kind w fs) f
+at_form Until fs e f = ap (λ w. by_word (get_or w 3 0) fs) e ∙ ap (λ w. by_kind w fs) f
 
 -- a line of which only one reading is left, and that one fails, is misshapen
 module _ (d : Declarations) (bytes : List ℕ) (x : Line) (is : reading (fields bytes) ≡ x) where
-  pub wrong-count : (length (fields bytes) ≡ length (shown x) → ⊥) → Faulty d bytes 2 0
-  wrong-count ne = shape (λ y r. ne (ap length (r .0 ∙ ap shown (only bytes y r ∙ is))))
+  pub wrong_count : (length (fields bytes) ≡ length (shown x) → ⊥) → Faulty d bytes 2 0
+  wrong_count ne = shape (λ y r. ne (ap length (r.0 ∙ ap shown (only bytes y r ∙ is))))
 
-  pub wrong-name : (All Named (named-fields x) → ⊥) → Faulty d bytes 2 0
-  wrong-name un = shape (λ y r. un (subst (λ z. All Named (named-fields z)) (only bytes y r ∙ is) (r .1)))
+  pub wrong_name : (All Named (named_fields x) → ⊥) → Faulty d bytes 2 0
+  wrong_name un = shape (λ y r. un (subst (λ z. All Named (named_fields z)) (only bytes y r ∙ is) r.1))

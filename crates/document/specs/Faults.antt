@@ -1,47 +1,47 @@
 -- The code, the line and the column of a fault.
-use Prim.Native.Nat.{ℕ}
-use Rattle·program.specs.declared.fault.ProgramFault.{ProgramFault}
-use Rattle·program.specs.declared.fault.ProgramFault.the-variants.{Malformed, Undeclared, TooMany}
-use Rattle·document·specs.declared.fault.LineFault.{LineFault}
-use Rattle·document·specs.declared.fault.LineFault.the-variants.{Shape, Program, Naming, Limit, Order}
-use Rattle·document·specs.declared.fault.LoadFault.{LoadFault}
-use Rattle·document·specs.declared.fault.LoadFault.the-variants.{TooLong, Line}
+use Rattle.std.specs.Prelude.{ℕ}
+use Rattle.program.specs.declared.fault.ProgramFault.{ProgramFault}
+use Rattle.program.specs.declared.fault.ProgramFault.TheVariants.{Malformed, Undeclared, TooMany}
+use Rattle.document.specs.declared.fault.LineFault.{LineFault}
+use Rattle.document.specs.declared.fault.LineFault.TheVariants.{Shape, Program, Naming, Limit, Order}
+use Rattle.document.specs.declared.fault.LoadFault.{LoadFault}
+use Rattle.document.specs.declared.fault.LoadFault.TheVariants.{TooLong, Line}
 
 -- 3: malformed; 4: an action is not declared; 5: above 15 names
-abbrev pub programCode : ProgramFault → ℕ
-programCode (Malformed c) = 3
-programCode Undeclared = 4
-programCode TooMany = 5
+abbrev pub program_fault_code : ProgramFault → ℕ
+program_fault_code (Malformed c) = 3
+program_fault_code Undeclared = 4
+program_fault_code TooMany = 5
 
-abbrev pub programColumn : ProgramFault → ℕ
-programColumn (Malformed c) = c
-programColumn Undeclared = 0
-programColumn TooMany = 0
+abbrev pub program_fault_column : ProgramFault → ℕ
+program_fault_column (Malformed c) = c
+program_fault_column Undeclared = 0
+program_fault_column TooMany = 0
 
 -- 2: shape; 4: names; 5: limits; 6: the goal's place
-abbrev pub lineCode : LineFault → ℕ
-lineCode Shape = 2
-lineCode (Program f) = programCode f
-lineCode Naming = 4
-lineCode Limit = 5
-lineCode Order = 6
+abbrev pub line_fault_code : LineFault → ℕ
+line_fault_code Shape = 2
+line_fault_code (Program f) = program_fault_code f
+line_fault_code Naming = 4
+line_fault_code Limit = 5
+line_fault_code Order = 6
 
-abbrev pub lineColumn : LineFault → ℕ
-lineColumn Shape = 0
-lineColumn (Program f) = programColumn f
-lineColumn Naming = 0
-lineColumn Limit = 0
-lineColumn Order = 0
+abbrev pub line_fault_column : LineFault → ℕ
+line_fault_column Shape = 0
+line_fault_column (Program f) = program_fault_column f
+line_fault_column Naming = 0
+line_fault_column Limit = 0
+line_fault_column Order = 0
 
 -- 1: too long, with line 0
-abbrev pub loadCode : LoadFault → ℕ
-loadCode TooLong = 1
-loadCode (Line f) = lineCode (f .fault)
+abbrev pub load_fault_code : LoadFault → ℕ
+load_fault_code TooLong = 1
+load_fault_code (Line f) = line_fault_code f.fault
 
-abbrev pub loadLine : LoadFault → ℕ
-loadLine TooLong = 0
-loadLine (Line f) = f .line
+abbrev pub load_fault_line : LoadFault → ℕ
+load_fault_line TooLong = 0
+load_fault_line (Line f) = f.line
 
-abbrev pub loadColumn : LoadFault → ℕ
-loadColumn TooLong = 0
-loadColumn (Line f) = lineColumn (f .fault)
+abbrev pub load_fault_column : LoadFault → ℕ
+load_fault_column TooLong = 0
+load_fault_column (Line f) = line_fault_column f.fault

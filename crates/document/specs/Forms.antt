@@ -1,13 +1,9 @@
 -- Form lines by number.
-use mathlib.Core.Bool.{Bool, true, false, _&&_}
-use mathlib.Core.List.{List, []}
-use Prim.Native.Nat.{ℕ, _*_, _<_}
-use lib.Dec.{ltb}
-use lib.ListN.{getD}
-use Rattle·program.specs.declared.row.Row.{Row}
-use Rattle·program.specs.RowStates.{statesOf}
-use Rattle·document·specs.declared.form.Form.{Form}
-use Rattle·document·specs.declared.form.Form.the-variants.{True, Prop, Not, And, Or, Next, Until}
+use Rattle.std.specs.Prelude.{ℕ, ◌*◌, ◌<◌, Bool, true, false, ◌&&◌, List, [], nat_lt, slice_index_or}
+use Rattle.program.specs.declared.row.Row.{Row}
+use Rattle.program.specs.RowStates.{states_in}
+use Rattle.document.specs.declared.form.Form.{Form}
+use Rattle.document.specs.declared.form.Form.TheVariants.{True, Prop, Not, And, Or, Next, Until}
 
 -- form e speaks of declared propositions, actions and programs and of earlier forms
 abbrev pub Earlier : (props acts progs e : ℕ) → Form → Type 0
@@ -22,31 +18,31 @@ Earlier props acts progs e (Until f p g) = (f < e) × (p < progs) × (g < e)
 -- the same as a test
 abbrev pub earlier : (props acts progs e : ℕ) → Form → Bool
 earlier props acts progs e True = true
-earlier props acts progs e (Prop p) = ltb p props
-earlier props acts progs e (Not f) = ltb f e
-earlier props acts progs e (And f g) = ltb f e && ltb g e
-earlier props acts progs e (Or f g) = ltb f e && ltb g e
-earlier props acts progs e (Next a f) = ltb a acts && ltb f e
-earlier props acts progs e (Until f p g) = ltb f e && (ltb p progs && ltb g e)
+earlier props acts progs e (Prop p) = nat_lt p props
+earlier props acts progs e (Not f) = nat_lt f e
+earlier props acts progs e (And f g) = nat_lt f e && nat_lt g e
+earlier props acts progs e (Or f g) = nat_lt f e && nat_lt g e
+earlier props acts progs e (Next a f) = nat_lt a acts && nat_lt f e
+earlier props acts progs e (Until f p g) = nat_lt f e && (nat_lt p progs && nat_lt g e)
 
-abbrev pub formAt : List Form → ℕ → Form
-formAt lines e = getD lines e True
+abbrev pub form_in : List Form → ℕ → Form
+form_in lines e = slice_index_or lines e True
 
-abbrev pub blankRow : Row
-blankRow = record { names = 0; actions = []; nullable = false; first = 0; last = 0; follow = [] }
+abbrev pub blank_row : Row
+blank_row = record { names = 0; actions = []; nullable = false; first = 0; last = 0; follow = [] }
 
-abbrev pub rowAt : List Row → ℕ → Row
-rowAt rows p = getD rows p blankRow
+abbrev pub row_at : List Row → ℕ → Row
+row_at rows p = slice_index_or rows p blank_row
 
 -- how many claims a form has: 2, but 6 for each state of an until
-abbrev pub weightOf : List Row → Form → ℕ
-weightOf rows True = 2
-weightOf rows (Prop p) = 2
-weightOf rows (Not f) = 2
-weightOf rows (And f g) = 2
-weightOf rows (Or f g) = 2
-weightOf rows (Next a f) = 2
-weightOf rows (Until f p g) = 6 * statesOf (rowAt rows p)
+abbrev pub weight_in : List Row → Form → ℕ
+weight_in rows True = 2
+weight_in rows (Prop p) = 2
+weight_in rows (Not f) = 2
+weight_in rows (And f g) = 2
+weight_in rows (Or f g) = 2
+weight_in rows (Next a f) = 2
+weight_in rows (Until f p g) = 6 * states_in (row_at rows p)
 
 -- an until speaks of one of sixteen programs
 abbrev pub Known : Form → Type 0

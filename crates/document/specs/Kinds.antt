@@ -1,48 +1,45 @@
 -- The words that lines begin with, and the kinds of forms.
-use mathlib.Core.List.{List, []}
-use Prim.Native.Nat.{ℕ}
-use lib.Chars.{codes}
-use lib.ListN.{getD}
-use Rattle·document·specs.Lines.{Line, true-form, prop-form, not-form, and-form, or-form, next-form, until-form}
-use Rattle·document·specs.declared.words.Word.{Word}
-use Rattle·document·specs.declared.words.Word.the-variants as word
-use Rattle·document·specs.declared.words.Word.the-variants.{Act, Prog, Form, Goal}
-use Rattle·document·specs.declared.words.Kind.{Kind}
-use Rattle·document·specs.declared.words.Kind.the-variants.{True, Prop, Not, And, Or, Next, Until}
+use Rattle.std.specs.Prelude.{ℕ, List, [], codes, slice_index_or}
+use Rattle.document.specs.Lines.{Line, true_form, prop_form, not_form, and_form, or_form, next_form, until_form}
+use Rattle.document.specs.declared.words.Word.{Word}
+use Rattle.document.specs.declared.words.Word.TheVariants as word
+use Rattle.document.specs.declared.words.Word.TheVariants.{Act, Prog, Form, Goal}
+use Rattle.document.specs.declared.words.Kind.{Kind}
+use Rattle.document.specs.declared.words.Kind.TheVariants.{True, Prop, Not, And, Or, Next, Until}
 
 -- the word of a line of each sort
-abbrev pub first-word : Word → List ℕ
-first-word Act = codes "act"
-first-word word.Prop = codes "prop"
-first-word Prog = codes "prog"
-first-word Form = codes "form"
-first-word Goal = codes "goal"
+abbrev pub first_word : Word → List ℕ
+first_word Act = codes "act"
+first_word word.Prop = codes "prop"
+first_word Prog = codes "prog"
+first_word Form = codes "form"
+first_word Goal = codes "goal"
 
 -- the word of each kind of form
-abbrev pub word-of : Kind → List ℕ
-word-of True = codes "true"
-word-of Prop = codes "prop"
-word-of Not = codes "not"
-word-of And = codes "and"
-word-of Or = codes "or"
-word-of Next = codes "next"
-word-of Until = codes "until"
+abbrev pub word_of : Kind → List ℕ
+word_of True = codes "true"
+word_of Prop = codes "prop"
+word_of Not = codes "not"
+word_of And = codes "and"
+word_of Or = codes "or"
+word_of Next = codes "next"
+word_of Until = codes "until"
 
-abbrev pub operands-of : Kind → ℕ
-operands-of True = 0
-operands-of Prop = 1
-operands-of Not = 1
-operands-of And = 2
-operands-of Or = 2
-operands-of Next = 2
-operands-of Until = 3
+abbrev pub operands_of : Kind → ℕ
+operands_of True = 0
+operands_of Prop = 1
+operands_of Not = 1
+operands_of And = 2
+operands_of Or = 2
+operands_of Next = 2
+operands_of Until = 3
 
 -- the form line of a kind that has these fields: the name in field 1, the operands from field 3 on
-abbrev pub form-with : Kind → List (List ℕ) → Line
-form-with True fs = true-form (getD fs 1 [])
-form-with Prop fs = prop-form (getD fs 1 []) (getD fs 3 [])
-form-with Not fs = not-form (getD fs 1 []) (getD fs 3 [])
-form-with And fs = and-form (getD fs 1 []) (getD fs 3 []) (getD fs 4 [])
-form-with Or fs = or-form (getD fs 1 []) (getD fs 3 []) (getD fs 4 [])
-form-with Next fs = next-form (getD fs 1 []) (getD fs 3 []) (getD fs 4 [])
-form-with Until fs = until-form (getD fs 1 []) (getD fs 3 []) (getD fs 4 []) (getD fs 5 [])
+abbrev pub form_with : Kind → List (List ℕ) → Line
+form_with True fs = true_form (slice_index_or fs 1 [])
+form_with Prop fs = prop_form (slice_index_or fs 1 []) (slice_index_or fs 3 [])
+form_with Not fs = not_form (slice_index_or fs 1 []) (slice_index_or fs 3 [])
+form_with And fs = and_form (slice_index_or fs 1 []) (slice_index_or fs 3 []) (slice_index_or fs 4 [])
+form_with Or fs = or_form (slice_index_or fs 1 []) (slice_index_or fs 3 []) (slice_index_or fs 4 [])
+form_with Next fs = next_form (slice_index_or fs 1 []) (slice_index_or fs 3 []) (slice_index_or fs 4 [])
+form_with Until fs = until_form (slice_index_or fs 1 []) (slice_index_or fs 3 []) (slice_index_or fs 4 []) (slice_index_or fs 5 [])

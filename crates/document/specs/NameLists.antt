@@ -1,9 +1,7 @@
 -- The names that a list in memory holds.
-use mathlib.Core.List.{List, map}
-use Prim.Native.Nat.{ℕ}
-use lib.ListN.{take}
-use Rattle·program.specs.Names.{spelled}
-use Rattle·program.specs.declared.name.Name.{Name}
+use Rattle.std.specs.Prelude.{ℕ, List, map, take}
+use Rattle.program.specs.Names.{spelled}
+use Rattle.program.specs.declared.name.Name.{Name}
 
 -- the first of these names, so many, as bytes
 abbrev pub spellings : ℕ → List Name → List (List ℕ)

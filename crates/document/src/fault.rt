@@ -1,11 +1,10 @@
 // Why a text is no document: the program's fault inside the line's, and that inside the load's.
-ghost use mathlib.Core.Path.{_≡_};
-ghost use Rattle·document·specs.declared.fault.LineFault.the-variants.{Program};
-ghost use Rattle·document·specs.declared.fault.LoadFault.the-variants.{Line};
-ghost use Rattle·document·specs.Faults.{programCode, lineCode, programColumn, lineColumn, loadCode, loadLine, loadColumn};
+ghost use Rattle.std.specs.Prelude.{◌≡◌};
+ghost use Rattle.document.specs.declared.fault.LineFault.TheVariants.{Program};
+ghost use Rattle.document.specs.declared.fault.LoadFault.TheVariants.{Line};
+ghost use Rattle.document.specs.Faults.{program_fault_code, line_fault_code, program_fault_column, line_fault_column, load_fault_code, load_fault_line, load_fault_column};
+
 use program::fault::ProgramFault;
-use program::fault::ProgramFaultDebug;
-use program::fault::ProgramFaultPartialEq;
 
 #[derive(Clone, Copy, PartialEq, Eq, Debug)]
 pub enum LineFault {
@@ -35,16 +34,16 @@ pub enum LoadFault {
     Line(LineAt),
 }
 
-pub impl From<ProgramFault> for LineFault as LineFaultFromProgram {
-    ghost converts = { λ f r. r ≡ Program f };
+impl From<ProgramFault> for LineFault {
+    ghost from_gives = { λ f r. r ≡ Program f };
 
     fn from(fault: ProgramFault) -> LineFault {
         LineFault::Program(fault)
     }
 }
 
-pub impl From<LineAt> for LoadFault as LoadFaultFromLine {
-    ghost converts = { λ f r. r ≡ Line f };
+impl From<LineAt> for LoadFault {
+    ghost from_gives = { λ f r. r ≡ Line f };
 
     fn from(fault: LineAt) -> LoadFault {
         LoadFault::Line(fault)
@@ -52,7 +51,7 @@ pub impl From<LineAt> for LoadFault as LoadFaultFromLine {
 }
 
 fn program_code(fault: ProgramFault) -> u8
-    ensures { λ r. ⌜ r ≡ programCode fault ⌝ }
+    ensures { result ≡ program_fault_code fault }
 {
     match fault {
         ProgramFault::Malformed { column: _ } => 3,
@@ -62,7 +61,7 @@ fn program_code(fault: ProgramFault) -> u8
 }
 
 fn program_column(fault: ProgramFault) -> usize
-    ensures { λ r. ⌜ r ≡ programColumn fault ⌝ }
+    ensures { result ≡ program_fault_column fault }
 {
     match fault {
         ProgramFault::Malformed { column } => column,
@@ -72,7 +71,7 @@ fn program_column(fault: ProgramFault) -> usize
 
 impl LineFault {
     pub fn code(self) -> u8
-        ensures { λ r. ⌜ r ≡ lineCode self ⌝ }
+        ensures { result ≡ line_fault_code self }
     {
         match self {
             LineFault::Shape => 2,
@@ -85,7 +84,7 @@ impl LineFault {
 
     // The column of a malformed program, else 0.
     pub fn column(self) -> usize
-        ensures { λ r. ⌜ r ≡ lineColumn self ⌝ }
+        ensures { result ≡ line_fault_column self }
     {
         match self {
             LineFault::Program(fault) => program_column(fault),
@@ -96,7 +95,7 @@ impl LineFault {
 
 impl LoadFault {
     pub fn code(self) -> u8
-        ensures { λ r. ⌜ r ≡ loadCode self ⌝ }
+        ensures { result ≡ load_fault_code self }
     {
         match self {
             LoadFault::TooLong => 1,
@@ -106,7 +105,7 @@ impl LoadFault {
 
     // The line, or 0 for a text that is too long.
     pub fn line(self) -> usize
-        ensures { λ r. ⌜ r ≡ loadLine self ⌝ }
+        ensures { result ≡ load_fault_line self }
     {
         match self {
             LoadFault::TooLong => 0,
@@ -115,7 +114,7 @@ impl LoadFault {
     }
 
     pub fn column(self) -> usize
-        ensures { λ r. ⌜ r ≡ loadColumn self ⌝ }
+        ensures { result ≡ load_fault_column self }
     {
         match self {
             LoadFault::TooLong => 0,

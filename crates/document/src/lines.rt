@@ -1,36 +1,26 @@
 // The lines of a document by kind. Faults are tried in the order of their codes.
-ghost use mathlib.Core.Path.{_≡_};
-ghost use Prim.Native.Nat.{ℕ, _+_, _<_, _≤_};
-ghost use lib.ListN.{length, getD};
-ghost use mathlib.Core.List.{[]};
-ghost use lib.Chars.{codes};
-ghost use Rattle·std.specs.Orderings.{Decides};
-ghost use Rattle·program.specs.Names.{Named, spelled, Missing, Number};
-ghost use Rattle·document·specs.Kept.{names-of};
-ghost use Rattle·document·specs.Told.{word-in, New-below, Told, Form-told, Goal-told};
-ghost use Rattle·std.specs.Vec.{made};
-ghost use Rattle·std.specs.Results.{Cases};
-ghost use Rattle·document·specs.Texts.{fields};
-ghost use Rattle·document·specs.declared.fault.LineFault.the-variants.{Shape, Naming, Limit};
-ghost use Rattle·document·specs.Forms.{Earlier};
+ghost use Rattle.std.specs.Prelude.{◌≡◌, ℕ, ◌+◌, ◌<◌, ◌≤◌, [], length, IfOk, codes, Decides, MatchResult, OnOk, ◌≢◌, slice_index_or};
+ghost use Rattle.program.specs.Names.{Named, spelled, Missing, Number};
+ghost use Rattle.document.specs.Kept.{names_of};
+ghost use Rattle.document.specs.Told.{word_in, NewBelow, Told, FormTold, GoalTold};
+ghost use Rattle.document.specs.Texts.{fields};
+ghost use Rattle.document.specs.declared.fault.LineFault.TheVariants.{Shape, Naming, Limit};
+ghost use Rattle.document.specs.Forms.{Earlier};
+
 use crate::declared::Declared;
 use crate::document::Document;
 use crate::fault::LineFault;
-use crate::fault::LineFaultFromProgram;
-use crate::fields::field;
-use crate::fields::field_count;
+use crate::fields::{field, field_count};
 use crate::form::Form;
 use crate::names::Names;
-use crate::words::Kind;
-use crate::words::Word;
+use crate::words::{Kind, Word};
 use program::check::check;
-use program::name::Name;
-use program::name::is_name;
+use program::name::{Name, is_name};
 use program::read::read;
 
 // The name that a field spells.
 fn name_of(text: &[u8]) -> Result<Name, LineFault>
-    ensures { λ r. ⌜ Cases r (λ n. Named (now (text .entry)) × (spelled n ≡ now (text .entry))) (λ f. (f ≡ Shape) × (Named (now (text .entry)) → ⊥)) ⌝ }
+    ensures { MatchResult result (λ n. Named text.now × (spelled n ≡ text.now)) (λ f. (f ≡ Shape) × (Named text.now → ⊥)) }
 {
     match Name::read(text) {
         Some(name) => Ok(name),
@@ -40,8 +30,8 @@ fn name_of(text: &[u8]) -> Result<Name, LineFault>
 
 // The number of a name that is declared.
 fn number_of(names: &Names, text: &[u8]) -> Result<u8, LineFault>
-    ensures within { λ r. ⌜ made r (λ i. i < now (names .entry) .count) ⌝ }
-    ensures is { λ r. ⌜ Cases r (λ i. Number (names-of (now (names .entry))) (now (text .entry)) i) (λ f. (f ≡ Naming) × Missing (names-of (now (names .entry))) (now (text .entry))) ⌝ }
+    ensures within { IfOk result (λ i. i < names.now.count) }
+    ensures is { MatchResult result (λ i. Number (names_of names.now) text.now i) (λ f. (f ≡ Naming) × Missing (names_of names.now) text.now) }
 {
     match names.find(text) {
         Some(i) => Ok(i as u8),
@@ -51,8 +41,8 @@ fn number_of(names: &Names, text: &[u8]) -> Result<u8, LineFault>
 
 // Refuses a name that is declared already, then one above the limit of its kind.
 fn new_below(names: &Names, text: &[u8], limit: usize) -> Result<(), LineFault>
-    ensures below { λ r. ⌜ made r (λ _. now (names .entry) .count < limit) ⌝ }
-    ensures is { λ r. ⌜ Cases r (λ _. Missing (names-of (now (names .entry))) (now (text .entry))) (λ f. New-below (names-of (now (names .entry))) (now (names .entry) .count) (now (text .entry)) limit f) ⌝ }
+    ensures below { OnOk result (names.now.count < limit) }
+    ensures is { MatchResult result (λ _. Missing (names_of names.now) text.now) (λ f. NewBelow (names_of names.now) names.now.count text.now limit f) }
 {
     if names.find(text).is_some() {
         return Err(LineFault::Naming);
@@ -65,7 +55,7 @@ fn new_below(names: &Names, text: &[u8], limit: usize) -> Result<(), LineFault>
 
 // Refuses a line with another number of fields.
 pub fn counted(line: &[u8], count: usize) -> Result<(), LineFault>
-    ensures { λ r. ⌜ Cases r (λ _. length (fields (now (line .entry))) ≡ count) (λ f. (f ≡ Shape) × (length (fields (now (line .entry))) ≡ count → ⊥)) ⌝ }
+    ensures { MatchResult result (λ _. length (fields line.now) ≡ count) (λ f. (f ≡ Shape) × (length (fields line.now) ≡ count → ⊥)) }
 {
     if field_count(line) != count {
         return Err(LineFault::Shape);
@@ -75,7 +65,7 @@ pub fn counted(line: &[u8], count: usize) -> Result<(), LineFault>
 
 // `act NAME`
 fn act_line(declared: Declared, line: &[u8]) -> Result<Declared, LineFault>
-    ensures { λ r. ⌜ (word-in (now (line .entry)) ≡ codes "act" → Told declared (now (line .entry)) r) ⌝ }
+    ensures { word_in line.now ≡ codes "act" → Told declared line.now result }
 {
     counted(line, 2)?;
     let text = field(line, 1);
@@ -86,7 +76,7 @@ fn act_line(declared: Declared, line: &[u8]) -> Result<Declared, LineFault>
 
 // `prop NAME`
 fn prop_line(declared: Declared, line: &[u8]) -> Result<Declared, LineFault>
-    ensures { λ r. ⌜ (word-in (now (line .entry)) ≡ codes "prop" → Told declared (now (line .entry)) r) ⌝ }
+    ensures { word_in line.now ≡ codes "prop" → Told declared line.now result }
 {
     counted(line, 2)?;
     let text = field(line, 1);
@@ -97,7 +87,7 @@ fn prop_line(declared: Declared, line: &[u8]) -> Result<Declared, LineFault>
 
 // `prog NAME PROGRAM`
 fn prog_line(declared: Declared, line: &[u8]) -> Result<Declared, LineFault>
-    ensures { λ r. ⌜ (word-in (now (line .entry)) ≡ codes "prog" → Told declared (now (line .entry)) r) ⌝ }
+    ensures { word_in line.now ≡ codes "prog" → Told declared line.now result }
 {
     counted(line, 3)?;
     let text = field(line, 1);
@@ -116,8 +106,8 @@ fn prog_line(declared: Declared, line: &[u8]) -> Result<Declared, LineFault>
 
 // Whether each operand of a form line is a well-formed name.
 fn operands_named(line: &[u8], operands: usize) -> bool
-    requires { ⌜ operands ≤ 3 ⌝ }
-    ensures { λ r. ⌜ Decides r ((k : ℕ) → k < operands → Named (getD (fields (now (line .entry))) (3 + k) [])) ⌝ }
+    requires { operands ≤ 3 }
+    ensures { Decides result ((k : ℕ) → k < operands → Named (slice_index_or (fields line.now) (3 + k) [])) }
 {
     for k in 0..operands {
         if !is_name(field(line, 3 + k)) {
@@ -129,8 +119,8 @@ fn operands_named(line: &[u8], operands: usize) -> bool
 
 // The form of a kind, with the numbers of its operands.
 fn form_of(declared: &Declared, kind: Kind, line: &[u8]) -> Result<Form, LineFault>
-    ensures told { λ r. ⌜ Form-told (now (declared .entry)) kind (now (line .entry)) r ⌝ }
-    ensures earlier { λ r. ⌜ made r (λ f. Earlier (now (declared .entry) .props .count) (now (declared .entry) .acts .count) (now (declared .entry) .progs .count) (now (declared .entry) .forms .count) f) ⌝ }
+    ensures told { FormTold declared.now kind line.now result }
+    ensures earlier { IfOk result (λ f. Earlier declared.now.props.count declared.now.acts.count declared.now.progs.count declared.now.forms.count f) }
 {
     let acts = declared.acts();
     let props = declared.props();
@@ -166,7 +156,7 @@ fn form_of(declared: &Declared, kind: Kind, line: &[u8]) -> Result<Form, LineFau
 
 // `form NAME KIND OPERANDS`
 fn form_line(declared: Declared, line: &[u8]) -> Result<Declared, LineFault>
-    ensures { λ r. ⌜ (word-in (now (line .entry)) ≡ codes "form" → Told declared (now (line .entry)) r) ⌝ }
+    ensures { word_in line.now ≡ codes "form" → Told declared line.now result }
 {
     let text = field(line, 1);
     let Some(kind) = Kind::read(field(line, 2)) else {
@@ -191,7 +181,7 @@ fn form_line(declared: Declared, line: &[u8]) -> Result<Declared, LineFault>
 
 // `goal FORM`
 pub fn goal_line(declared: Declared, line: &[u8]) -> Result<Document, LineFault>
-    ensures { λ r. ⌜ (word-in (now (line .entry)) ≡ codes "goal" → Goal-told declared (now (line .entry)) r) ⌝ }
+    ensures { word_in line.now ≡ codes "goal" → GoalTold declared line.now result }
 {
     counted(line, 2)?;
     let text = field(line, 1);
@@ -207,7 +197,7 @@ pub fn goal_line(declared: Declared, line: &[u8]) -> Result<Document, LineFault>
 
 // A line that declares something.
 pub fn declaration(declared: Declared, line: &[u8]) -> Result<Declared, LineFault>
-    ensures { λ r. ⌜ ((word-in (now (line .entry)) ≡ codes "goal" → ⊥) → Told declared (now (line .entry)) r) ⌝ }
+    ensures { (word_in line.now ≢ codes "goal") → Told declared line.now result }
 {
     let Some(word) = Word::read(field(line, 0)) else {
         return Err(LineFault::Shape);
@@ -223,7 +213,7 @@ pub fn declaration(declared: Declared, line: &[u8]) -> Result<Declared, LineFaul
 
 // Whether the line's first field is `goal`.
 pub fn is_goal(line: &[u8]) -> bool
-    ensures { λ r. ⌜ Decides r (word-in (now (line .entry)) ≡ codes "goal") ⌝ }
+    ensures { Decides result (word_in line.now ≡ codes "goal") }
 {
     let Some(word) = Word::read(field(line, 0)) else {
         return false;

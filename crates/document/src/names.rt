@@ -1,13 +1,9 @@
 // The names declared in one kind, in order.
-ghost use mathlib.Core.Path.{_≡_};
-ghost use Prim.Native.Nat.{_+_, _<_, _≤_};
-ghost use lib.ListN.{length, getD, take};
-ghost use mathlib.Core.List.{[], _∷_, _++_};
-ghost use Rattle·std.specs.Options.{Cases};
-ghost use Rattle·program.specs.Names.{spelled, Missing, Number};
-ghost use Rattle·document·specs.NameLists.{spellings};
-use program::name::Name;
-use program::name::find;
+ghost use Rattle.std.specs.Prelude.{◌≡◌, ◌+◌, ◌<◌, ◌≤◌, [], ◌∷◌, ◌++◌, length, take, IfSome, MatchOption, slice_index_or};
+ghost use Rattle.program.specs.Names.{spelled, Missing, Number};
+ghost use Rattle.document.specs.NameLists.{spellings};
+
+use program::name::{Name, find};
 
 #[derive(Clone, Copy)]
 pub struct Names {
@@ -19,8 +15,8 @@ pub struct Names {
 
 impl Names {
     pub fn new() -> Names
-        ensures count { λ r. ⌜ r .count ≡ 0 ⌝ }
-        ensures none { λ r. ⌜ spellings (r .count) (r .list) ≡ [] ⌝ }
+        ensures count { result.count ≡ 0 }
+        ensures none { spellings result.count result.list ≡ [] }
     {
         Names {
             list: [Name::blank(); 64],
@@ -29,32 +25,32 @@ impl Names {
     }
 
     pub fn count(&self) -> usize
-        ensures is { λ r. ⌜ r ≡ now (self .entry) .count ⌝ }
-        ensures few { λ r. ⌜ r ≤ 64 ⌝ }
-        ensures long { λ r. ⌜ length (spellings (now (self .entry) .count) (now (self .entry) .list)) ≡ r ⌝ }
+        ensures is { result ≡ self.now.count }
+        ensures few { result ≤ 64 }
+        ensures long { length (spellings self.now.count self.now.list) ≡ result }
     {
         self.count
     }
 
     // The names in order.
     pub fn listed(&self) -> &[Name]
-        ensures count { λ r. ⌜ length (now r) ≡ now (self .entry) .count ⌝ }
-        ensures is { λ r. ⌜ now r ≡ take (now (self .entry) .count) (now (self .entry) .list) ⌝ }
+        ensures count { length result.now ≡ self.now.count }
+        ensures is { result.now ≡ take self.now.count self.now.list }
     {
         &self.list[0..self.count]
     }
 
     // The number of the name that the field spells.
     pub fn find(&self, field: &[u8]) -> Option<usize>
-        ensures within { λ r. ⌜ Cases r (Unit {0}) (λ i. i < now (self .entry) .count) ⌝ }
-        ensures is { λ r. ⌜ Cases r (Missing (spellings (now (self .entry) .count) (now (self .entry) .list)) (now (field .entry))) (λ i. Number (spellings (now (self .entry) .count) (now (self .entry) .list)) (now (field .entry)) i) ⌝ }
+        ensures within { IfSome result (λ i. i < self.now.count) }
+        ensures is { MatchOption result (Missing (spellings self.now.count self.now.list) field.now) (λ i. Number (spellings self.now.count self.now.list) field.now i) }
     {
         find(&self.list[0..self.count], field)
     }
 
     // The name of a number below the count.
     pub fn at(&self, i: usize) -> Name
-        ensures { λ r. ⌜ (i < now (self .entry) .count → spelled r ≡ getD (spellings (now (self .entry) .count) (now (self .entry) .list)) i []) ⌝ }
+        ensures { i < self.now.count → spelled result ≡ slice_index_or (spellings self.now.count self.now.list) i [] }
     {
         if i < self.count {
             self.list[i]
@@ -65,9 +61,9 @@ impl Names {
 
     // With one name more.
     pub fn with(self, name: Name) -> Names
-        requires { ⌜ self .count < 64 ⌝ }
-        ensures count { λ r. ⌜ r .count ≡ self .count + 1 ⌝ }
-        ensures names { λ r. ⌜ spellings (r .count) (r .list) ≡ spellings (self .count) (self .list) ++ spelled name ∷ [] ⌝ }
+        requires { self.count < 64 }
+        ensures count { result.count ≡ self.count + 1 }
+        ensures names { spellings result.count result.list ≡ spellings self.count self.list ++ spelled name ∷ [] }
     {
         let mut list = self.list;
         list[self.count] = name;

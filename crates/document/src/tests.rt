@@ -1,6 +1,7 @@
 // Refusals at their boundaries, on both sides.
 use crate::load::load;
-use std::test::*;
+use std::process::Abort;
+use std::test::Fail;
 
 fn taken(text: &[u8]) -> Result<(), Fail> {
     match load(text) {
@@ -9,12 +10,13 @@ fn taken(text: &[u8]) -> Result<(), Fail> {
     }
 }
 
-fn refused(text: &[u8], code: u8, line: usize) -> Result<(), Fail> {
+fn refused(rt: &impl Abort, text: &[u8], code: u8, line: usize) -> Result<(), Fail> {
     match load(text) {
         Ok(_) => Err(Fail::new("taken")),
         Err(fault) => {
-            check_eq(fault.code(), code)?;
-            check_eq(fault.line(), line)
+            assert_eq!(rt; fault.code(), code);
+            assert_eq!(rt; fault.line(), line);
+            Ok(())
         }
     }
 }
@@ -62,18 +64,28 @@ impl Page {
 }
 
 #[test]
-fn long_text() -> Result<(), Fail> {
+fn long_text(rt: HostRuntime) -> Result<(), Fail> {
     let bytes = [b'a'; 16385];
-    refused(&bytes[..16384], 2, 1)?;
-    refused(&bytes, 1, 0)
+    refused(&rt, &bytes[..16384], 2, 1)?;
+    refused(&rt, &bytes, 1, 0)
 }
 
 #[test]
-fn names() -> Result<(), Fail> {
+fn names(rt: HostRuntime) -> Result<(), Fail> {
     taken(b"act\tabcdefghijklmnop\nform\tf\ttrue\ngoal\tf\n")?;
-    refused(b"act\tabcdefghijklmnopq\nform\tf\ttrue\ngoal\tf\n", 2, 1)?;
-    refused(b"act\ta\nform\tf\ttrue\nform\tf\ttrue\ngoal\tf\n", 4, 3)?;
-    refused(b"act\ta\nform\tf\tnot\tf\ngoal\tf\n", 4, 2)
+    refused(
+        &rt,
+        b"act\tabcdefghijklmnopq\nform\tf\ttrue\ngoal\tf\n",
+        2,
+        1,
+    )?;
+    refused(
+        &rt,
+        b"act\ta\nform\tf\ttrue\nform\tf\ttrue\ngoal\tf\n",
+        4,
+        3,
+    )?;
+    refused(&rt, b"act\ta\nform\tf\tnot\tf\ngoal\tf\n", 4, 2)
 }
 
 fn acts(count: usize) -> Page {
@@ -84,9 +96,9 @@ fn acts(count: usize) -> Page {
 }
 
 #[test]
-fn sixteen_acts() -> Result<(), Fail> {
+fn sixteen_acts(rt: HostRuntime) -> Result<(), Fail> {
     taken(acts(16).text())?;
-    refused(acts(17).text(), 5, 17)
+    refused(&rt, acts(17).text(), 5, 17)
 }
 
 fn forms(count: usize) -> Page {
@@ -98,9 +110,9 @@ fn forms(count: usize) -> Page {
 }
 
 #[test]
-fn sixty_four_forms() -> Result<(), Fail> {
+fn sixty_four_forms(rt: HostRuntime) -> Result<(), Fail> {
     taken(forms(64).text())?;
-    refused(forms(65).text(), 5, 66)
+    refused(&rt, forms(65).text(), 5, 66)
 }
 
 // Two untils of weight 96, and forms of weight 2.
@@ -114,23 +126,28 @@ fn weighing(count: usize) -> Page {
 }
 
 #[test]
-fn weight() -> Result<(), Fail> {
+fn weight(rt: HostRuntime) -> Result<(), Fail> {
     taken(weighing(31).text())?;
-    refused(weighing(32).text(), 5, 37)
+    refused(&rt, weighing(32).text(), 5, 37)
 }
 
 #[test]
-fn programs() -> Result<(), Fail> {
-    refused(b"act\ta\nprog\tx\ta;a;a;a;a;a;a;a;a;a;a;a;a;a;a;a\n", 5, 2)?;
-    refused(b"act\ta\nprog\tx\ta;b\n", 4, 2)?;
-    refused(b"act\ta\nprog\tx\ta;;a\n", 3, 2)
+fn programs(rt: HostRuntime) -> Result<(), Fail> {
+    refused(
+        &rt,
+        b"act\ta\nprog\tx\ta;a;a;a;a;a;a;a;a;a;a;a;a;a;a;a\n",
+        5,
+        2,
+    )?;
+    refused(&rt, b"act\ta\nprog\tx\ta;b\n", 4, 2)?;
+    refused(&rt, b"act\ta\nprog\tx\ta;;a\n", 3, 2)
 }
 
 #[test]
-fn goals() -> Result<(), Fail> {
-    refused(b"", 6, 1)?;
-    refused(b"form\tf\ttrue\ngoal\tf\n", 6, 2)?;
-    refused(b"act\ta\nform\tf\ttrue\ngoal\tf\nact\tb\n", 6, 4)?;
-    refused(b"act\ta\nform\tf\ttrue\ngoal\tf", 2, 3)?;
-    refused(b"act\ta\nform\tf\ttrue\ngoal\tf\n\n", 6, 4)
+fn goals(rt: HostRuntime) -> Result<(), Fail> {
+    refused(&rt, b"", 6, 1)?;
+    refused(&rt, b"form\tf\ttrue\ngoal\tf\n", 6, 2)?;
+    refused(&rt, b"act\ta\nform\tf\ttrue\ngoal\tf\nact\tb\n", 6, 4)?;
+    refused(&rt, b"act\ta\nform\tf\ttrue\ngoal\tf", 2, 3)?;
+    refused(&rt, b"act\ta\nform\tf\ttrue\ngoal\tf\n\n", 6, 4)
 }

@@ -1,8 +1,6 @@
 // The words of a document: what a line begins with, and the kinds of forms.
-ghost use mathlib.Core.Path.{_≡_};
-ghost use Prim.Native.Nat.{_≤_};
-ghost use Rattle·std.specs.Options.{Cases};
-ghost use Rattle·document·specs.Kinds.{first-word, word-of, operands-of};
+ghost use Rattle.std.specs.Prelude.{◌≡◌, ◌≤◌, MatchOption, ◌≢◌};
+ghost use Rattle.document.specs.Kinds.{first_word, word_of, operands_of};
 
 // What a line begins with.
 #[derive(Clone, Copy, PartialEq, Eq)]
@@ -16,7 +14,7 @@ pub enum Word {
 
 impl Word {
     pub fn read(word: &[u8]) -> Option<Word>
-        ensures { λ r. ⌜ Cases r ((k : Word) → now (word .entry) ≡ first-word k → ⊥) (λ k. now (word .entry) ≡ first-word k) ⌝ }
+        ensures { MatchOption result ((k : Word) → word.now ≢ first_word k) (λ k. word.now ≡ first_word k) }
     {
         match word {
             b"act" => Some(Word::Act),
@@ -44,7 +42,7 @@ pub enum Kind {
 impl Kind {
     // The kind that the word names.
     pub fn read(word: &[u8]) -> Option<Kind>
-        ensures { λ r. ⌜ Cases r ((k : Kind) → now (word .entry) ≡ word-of k → ⊥) (λ k. now (word .entry) ≡ word-of k) ⌝ }
+        ensures { MatchOption result ((k : Kind) → word.now ≢ word_of k) (λ k. word.now ≡ word_of k) }
     {
         match word {
             b"true" => Some(Kind::True),
@@ -59,8 +57,8 @@ impl Kind {
     }
 
     pub fn operands(self) -> usize
-        ensures is { λ r. ⌜ r ≡ operands-of self ⌝ }
-        ensures few { λ r. ⌜ r ≤ 3 ⌝ }
+        ensures is { result ≡ operands_of self }
+        ensures few { result ≤ 3 }
     {
         match self {
             Kind::True => 0,

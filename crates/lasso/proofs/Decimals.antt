@@ -1,43 +1,38 @@
 -- Numbers in decimal, digit by digit.
-use mathlib.Core.Path.{_≡_, refl, sym, _∙_, ap, subst}
-use mathlib.Core.Logic.{⊎-elim}
-use mathlib.Core.List.{List, [], _∷_, _++_}
-use Prim.Native.Nat.{ℕ, _+_, _-_, _*_, _/_, _%_, _<_, _≤_}
-use native.Mathlib.Omega.{arith}
-use lib.ListN.{length, getD, take}
-use Rattle·std.specs.shelf.Lists.{All}
-use Rattle·std.proofs.shelf.Lists.{take-more}
-use Rattle·std.proofs.shelf.Tests.{cases-lt, le-leb, lt-leb}
-use Rattle·lasso·specs.LassoTexts.{decimal}
+use Rattle.std.proofs.Common.{◌≡◌, ℕ, ◌+◌, ◌-◌, ◌*◌, ◌/◌, ◌%◌, ◌<◌, ◌≤◌, List, [], ◌∷◌, ◌++◌, length, get_or, take, sym, refl, ap, ◌∙◌, subst, ⊎_elim, arith}
+use Rattle.std.specs.List.{AllByRecursion as All}
+use Rattle.std.proofs.lemmas.List.{take_more}
+use Rattle.std.proofs.lemmas.Bool.{cases_lt, le-leb, lt-leb}
+use Rattle.lasso.specs.LassoTexts.{decimal}
 
 -- the number that digits spell after the number v
 abbrev pub number : ℕ → List ℕ → ℕ
 number v [] = v
 number v (d ∷ ds) = number (v * 10 + (d - 48)) ds
 
-number-push : (v : ℕ) (ds : List ℕ) (d : ℕ) → number v (ds ++ d ∷ []) ≡ number v ds * 10 + (d - 48)
-number-push v [] d = refl
-number-push v (e ∷ ds) d = number-push (v * 10 + (e - 48)) ds d
+number_push : (v : ℕ) (ds : List ℕ) (d : ℕ) → number v (ds ++ d ∷ []) ≡ number v ds * 10 + (d - 48)
+number_push v [] d = refl
+number_push v (e ∷ ds) d = number_push (v * 10 + (e - 48)) ds d
 
-pub number-more : (field : List ℕ) (k : ℕ) → k < length field → number 0 (take (k + 1) field) ≡ number 0 (take k field) * 10 + (getD field k 0 - 48)
-number-more field k h = ap (number 0) (take-more field k 0 h) ∙ number-push 0 (take k field) (getD field k 0)
+pub number_more : (field : List ℕ) (k : ℕ) → k < length field → number 0 (take (k + 1) field) ≡ number 0 (take k field) * 10 + (get_or field k 0 - 48)
+number_more field k h = ap (number 0) (take_more field k 0 h) ∙ number_push 0 (take k field) (get_or field k 0)
 
 -- 0 to 9
 abbrev pub Digit : ℕ → Type 0
 Digit b = (48 ≤ b) × (b ≤ 57)
 
-pub number-small : (ds : List ℕ) → length ds ≤ 3 → All Digit ds → number 0 ds ≤ 999
-number-small [] h all = omega arith
-number-small (a ∷ []) h all = omega (arith, all .0)
-number-small (a ∷ b ∷ []) h all = omega (arith, all .0, all .1 .0)
-number-small (a ∷ b ∷ c ∷ []) h all = omega (arith, all .0, all .1 .0, all .1 .1 .0)
-number-small (a ∷ b ∷ c ∷ d ∷ ds) h all = absurd (omega arith)
+pub number_small : (ds : List ℕ) → length ds ≤ 3 → All Digit ds → number 0 ds ≤ 999
+number_small [] h all = omega arith
+number_small (a ∷ []) h all = omega (arith, all.0)
+number_small (a ∷ b ∷ []) h all = omega (arith, all.0, all.1.0)
+number_small (a ∷ b ∷ c ∷ []) h all = omega (arith, all.0, all.1.0, all.1.1.0)
+number_small (a ∷ b ∷ c ∷ d ∷ ds) h all = absurd (omega arith)
 
 -- up to four digits, the first no 0 unless it stands alone
 pub record Numeral (field : List ℕ) : Type 0 where
   pub some : 0 < length field
   pub few : length field ≤ 4
-  pub head : 1 < length field → getD field 0 0 ≡ 48 → ⊥
+  pub head : 1 < length field → get_or field 0 0 ≡ 48 → ⊥
   pub digits : All Digit field
 
 module _ (n : ℕ) where
@@ -65,42 +60,42 @@ module _ (n : ℕ) where
 abbrev Spells : ℕ → List ℕ → Type 0
 Spells n field = Numeral field × (number 0 field ≡ n)
 
-pub decimal-spells : (n : ℕ) → n ≤ 4095 → Numeral (decimal n) × (number 0 (decimal n) ≡ n)
-decimal-spells n h =
+pub decimal_spells : (n : ℕ) → n ≤ 4095 → Numeral (decimal n) × (number 0 (decimal n) ≡ n)
+decimal_spells n h =
     let tens : n / 10 / 10 ≡ n / 100 = omega arith in
     let hundreds : n / 100 / 10 ≡ n / 1000 = omega arith in
-    ⊎-elim
+    ⊎_elim
     (λ a. subst (Spells n) (sym (one n a)) (record { some = omega arith; few = omega arith; head = λ l. absurd (omega arith); digits = ((omega arith, omega arith), tt) }, omega arith))
-    (λ a. ⊎-elim
+    (λ a. ⊎_elim
     (λ b. subst (Spells n) (sym (two n a b)) (record { some = omega arith; few = omega arith; head = λ l e. omega arith; digits = ((omega arith, omega arith), ((omega arith, omega arith), tt)) }, omega arith))
-    (λ b. ⊎-elim
+    (λ b. ⊎_elim
     (λ c. subst (Spells n) (sym (three n b c)) (record { some = omega arith; few = omega arith; head = λ l e. omega arith; digits = ((omega arith, omega arith), ((omega arith, omega arith), ((omega arith, omega arith), tt))) }, omega arith))
     (λ c. subst (Spells n) (sym (four n c)) (record { some = omega arith; few = omega arith; head = λ l e. omega arith; digits = ((omega arith, omega arith), ((omega arith, omega arith), ((omega arith, omega arith), ((omega arith, omega arith), tt)))) }, omega arith))
-    (cases-lt n 1000))
-    (cases-lt n 100))
-    (cases-lt n 10)
+    (cases_lt n 1000))
+    (cases_lt n 100))
+    (cases_lt n 10)
 
 -- a numeral is the text of its number
-pub numeral-is : (field : List ℕ) (n : ℕ) → Numeral field → n ≡ number 0 field → field ≡ decimal n
-numeral-is [] n r e = absurd (omega (arith, r .some))
-numeral-is (a ∷ []) n r e =
-    let p = r .digits .0 in
+pub numeral_is : (field : List ℕ) (n : ℕ) → Numeral field → n ≡ number 0 field → field ≡ decimal n
+numeral_is [] n r e = absurd (omega (arith, r.some))
+numeral_is (a ∷ []) n r e =
+    let p = r.digits.0 in
     let x : a ≡ 48 + n = omega arith in ap (λ (d : ℕ). d ∷ []) x ∙ sym (one n (omega arith))
-numeral-is (a ∷ b ∷ []) n r e =
-    let p = r .digits .0 in
-    let q = r .digits .1 .0 in
-    let h : 48 < a = first a p (r .head (omega arith)) in
+numeral_is (a ∷ b ∷ []) n r e =
+    let p = r.digits.0 in
+    let q = r.digits.1.0 in
+    let h : 48 < a = first a p (r.head (omega arith)) in
     let x : a ≡ 48 + n / 10 = omega arith in
     let y : b ≡ 48 + n % 10 = omega arith in
     ap (λ (d : ℕ). d ∷ b ∷ []) x ∙ ap (λ (d : ℕ). (48 + n / 10) ∷ d ∷ []) y ∙ sym (two n (omega arith) (omega arith))
   where
     first : (a : ℕ) → Digit a → (a ≡ 48 → ⊥) → 48 < a
     first a p ne = omega arith
-numeral-is (a ∷ b ∷ c ∷ []) n r e =
-    let p = r .digits .0 in
-    let q = r .digits .1 .0 in
-    let s = r .digits .1 .1 .0 in
-    let h : 48 < a = first a p (r .head (omega arith)) in
+numeral_is (a ∷ b ∷ c ∷ []) n r e =
+    let p = r.digits.0 in
+    let q = r.digits.1.0 in
+    let s = r.digits.1.1.0 in
+    let h : 48 < a = first a p (r.head (omega arith)) in
     let x : a ≡ 48 + n / 100 = omega arith in
     let y : b ≡ 48 + n / 10 % 10 = omega arith in
     let z : c ≡ 48 + n % 10 = omega arith in
@@ -109,12 +104,12 @@ numeral-is (a ∷ b ∷ c ∷ []) n r e =
   where
     first : (a : ℕ) → Digit a → (a ≡ 48 → ⊥) → 48 < a
     first a p ne = omega arith
-numeral-is (a ∷ b ∷ c ∷ t ∷ []) n r e =
-    let p = r .digits .0 in
-    let q = r .digits .1 .0 in
-    let s = r .digits .1 .1 .0 in
-    let u = r .digits .1 .1 .1 .0 in
-    let h : 48 < a = first a p (r .head (omega arith)) in
+numeral_is (a ∷ b ∷ c ∷ t ∷ []) n r e =
+    let p = r.digits.0 in
+    let q = r.digits.1.0 in
+    let s = r.digits.1.1.0 in
+    let u = r.digits.1.1.1.0 in
+    let h : 48 < a = first a p (r.head (omega arith)) in
     let x : a ≡ 48 + n / 1000 = omega arith in
     let y : b ≡ 48 + n / 100 % 10 = omega arith in
     let z : c ≡ 48 + n / 10 % 10 = omega arith in
@@ -125,8 +120,8 @@ numeral-is (a ∷ b ∷ c ∷ t ∷ []) n r e =
   where
     first : (a : ℕ) → Digit a → (a ≡ 48 → ⊥) → 48 < a
     first a p ne = omega arith
-numeral-is (a ∷ b ∷ c ∷ t ∷ u ∷ ds) n r e = absurd (omega (arith, r .few))
+numeral_is (a ∷ b ∷ c ∷ t ∷ u ∷ ds) n r e = absurd (omega (arith, r.few))
 
 -- no field is the text of two numbers
-pub decimal-same : (m n : ℕ) → m ≤ 4095 → n ≤ 4095 → decimal m ≡ decimal n → m ≡ n
-decimal-same m n h l e = sym (decimal-spells m h .1) ∙ ap (number 0) e ∙ decimal-spells n l .1
+pub decimal_same : (m n : ℕ) → m ≤ 4095 → n ≤ 4095 → decimal m ≡ decimal n → m ≡ n
+decimal_same m n h l e = sym (decimal_spells m h).1 ∙ ap (number 0) e ∙ (decimal_spells n l).1

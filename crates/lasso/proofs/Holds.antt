@@ -1,70 +1,63 @@
 -- What is entered of earlier forms tells whether a form holds.
-use mathlib.Core.Path.{_≡_, refl, sym, _∙_, ap, subst}
-use mathlib.Core.Logic.{_↔_}
-use mathlib.Core.Bool.{Bool}
-use mathlib.Core.List.{List, []}
-use Prim.Native.Nat.{ℕ, suc, _<_}
-use lib.Dec.{eqb}
-use lib.ListN.{length, getD}
-use Rattle·std.specs.Orderings.{Decides}
-use Rattle·std.proofs.shelf.Ways.{decides-eqb, decides-not, decides-and, decides-or}
-use Rattle·program.specs.Masks.{Bit}
-use Rattle·program.specs.Tables.{Automaton-of}
-use Rattle·program.specs.declared.automaton.Automaton.{Automaton}
-use Rattle·document.specs.Documents.{Document, Well-formed, Refers, built, formulas, form-at, formula-at, program-at}
-use Rattle·document.specs.declared.form.Form.{Form}
-use Rattle·document.specs.declared.form.Form.the-variants.{True, Prop, Not, And, Or, Next, Until}
-use Rattle·document.proofs.Formulas.{formula-is}
-use Rattle·lasso·specs.Judged.{holds-by, Plain, Judged}
-use Rattle·lasso·specs.Lassos.{stepAt}
-use Rattle·lasso·specs.Readings.{Reading, Truth}
-use Rattle·lasso·specs.Rounds.{next-place, tells, Reaches}
-use Rattle·lasso·specs.Sessions.{reading}
-use Rattle·lasso·specs.declared.step.Step.{Step}
-use Rattle·lasso·proofs.Alike.{truth-like}
-use Rattle·lasso·proofs.Places.{reading-here, alike-next, next-inside}
-use Rattle·lasso·proofs.Reached.{reaches-until}
-use Rattle·lasso·proofs.Truths.{judged-tells}
+use Rattle.std.proofs.Common.{◌≡◌, ℕ, suc, ◌<◌, Bool, eqb, ◌↔◌, List, [], length, get_or, Decides, sym, refl, ap, ◌∙◌, subst}
+use Rattle.std.proofs.lemmas.Bool.Decides.{Decides-eqb, Decides-not, Decides-and, Decides-or}
+use Rattle.program.specs.Masks.{Bit}
+use Rattle.program.specs.Tables.{AutomatonOf}
+use Rattle.program.specs.declared.automaton.Automaton.{Automaton}
+use Rattle.document.specs.Documents.{Document, WellFormed, Refers, built, formulas, form_at, formula_at, program_at}
+use Rattle.document.specs.declared.form.Form.{Form}
+use Rattle.document.specs.declared.form.Form.TheVariants.{True, Prop, Not, And, Or, Next, Until}
+use Rattle.document.proofs.Formulas.{formula_is}
+use Rattle.lasso.specs.Judged.{holds_by, Plain, Judged}
+use Rattle.lasso.specs.Lassos.{step_in}
+use Rattle.lasso.specs.Readings.{Reading, Truth}
+use Rattle.lasso.specs.Rounds.{next_place, tells, Reaches}
+use Rattle.lasso.specs.Sessions.{reading}
+use Rattle.lasso.specs.declared.step.Step.{Step}
+use Rattle.lasso.proofs.Alike.{truth_like}
+use Rattle.lasso.proofs.Places.{reading_here, alike_next, next_inside}
+use Rattle.lasso.proofs.Reached.{reaches_until}
+use Rattle.lasso.proofs.Truths.{judged_tells}
 
 module _ (d : Document) (steps : List Step) (stem : ℕ) where
   module _ (short : stem < length steps) (e i k : ℕ) (truths : List ℕ) (j : Judged d steps stem e k truths) (l : i < length steps) where
     abbrev s : Reading
     s = reading steps stem
 
-    abbrev holds-here : Form → Bool
-    holds-here o = holds-by o (stepAt steps i) (getD truths i 0) (getD truths (next-place (length steps) stem i) 0)
+    abbrev holds_here : Form → Bool
+    holds_here o = holds_by o (step_in steps i) (get_or truths i 0) (get_or truths (next_place (length steps) stem i) 0)
 
     -- what is entered of earlier forms tells whether a form that is no until holds
-    holds-built : (o : Form) → Refers d e o → Plain o → Decides (holds-here o) (Truth s i (built (d .progs) (formulas (d .progs) [] (d .forms)) o))
-    holds-built True r p = (λ t. tt, λ t. refl)
-    holds-built (Prop p) r q = let m = ap (λ x. x .marks p) (reading-here steps stem short i l) in (λ t. m ∙ t, λ t. sym m ∙ t)
-    holds-built (Not f) r p = decides-not _ (judged-tells d steps stem e k truths j f i r l)
-    holds-built (And f g) r p = decides-and _ _ (judged-tells d steps stem e k truths j f i (r .0) l) (judged-tells d steps stem e k truths j g i (r .1) l)
-    holds-built (Or f g) r p = decides-or _ _ (judged-tells d steps stem e k truths j f i (r .0) l) (judged-tells d steps stem e k truths j g i (r .1) l)
-    holds-built (Next a f) r p =
-        let m = ap (λ x. x .action) (reading-here steps stem short i l) in
-        let c = decides-eqb (stepAt steps i .action) a in
-        let u = judged-tells d steps stem e k truths j f (next-place (length steps) stem i) (r .1) (next-inside (length steps) stem short i) in
-        let v = truth-like (formula-at d f) s s (suc i) (next-place (length steps) stem i) (alike-next steps stem short i l) in
-        decides-and (eqb (stepAt steps i .action) a) _ (λ t. m ∙ c .0 t, λ t. c .1 (sym m ∙ t)) (λ t. v .1 (u .0 t), λ t. u .1 (v .0 t))
-    holds-built (Until f p g) r q = absurd q
+    holds_built : (o : Form) → Refers d e o → Plain o → Decides (holds_here o) (Truth s i (built d.progs (formulas d.progs [] d.forms) o))
+    holds_built True r p = (λ t. tt, λ t. refl)
+    holds_built (Prop p) r q = let m = ap (λ x. x.marks p) (reading_here steps stem short i l) in (λ t. m ∙ t, λ t. sym m ∙ t)
+    holds_built (Not f) r p = Decides-not _ (judged_tells d steps stem e k truths j f i r l)
+    holds_built (And f g) r p = Decides-and _ _ (judged_tells d steps stem e k truths j f i r.0 l) (judged_tells d steps stem e k truths j g i r.1 l)
+    holds_built (Or f g) r p = Decides-or _ _ (judged_tells d steps stem e k truths j f i r.0 l) (judged_tells d steps stem e k truths j g i r.1 l)
+    holds_built (Next a f) r p =
+        let m = ap (λ x. x.action) (reading_here steps stem short i l) in
+        let c = Decides-eqb (step_in steps i).action a in
+        let u = judged_tells d steps stem e k truths j f (next_place (length steps) stem i) r.1 (next_inside (length steps) stem short i) in
+        let v = truth_like (formula_at d f) s s (suc i) (next_place (length steps) stem i) (alike_next steps stem short i l) in
+        Decides-and (eqb (step_in steps i).action a) _ (λ t. m ∙ c.0 t, λ t. c.1 (sym m ∙ t)) (λ t. v.1 (u.0 t), λ t. u.1 (v.0 t))
+    holds_built (Until f p g) r q = absurd q
 
-    pub holds-so : (o : Form) → Well-formed d → e < length (d .forms) → o ≡ form-at d e → Plain o → Decides (holds-here o) (Truth s i (formula-at d e))
-    holds-so o good b is p =
-        subst (λ x. Decides (holds-here o) (Truth s i x)) (ap (built (d .progs) (formulas (d .progs) [] (d .forms))) is ∙ sym (formula-is d good e b))
-        (holds-built o (subst (Refers d e) (sym is) (good .refers e b)) p)
+    pub holds_so : (o : Form) → WellFormed d → e < length d.forms → o ≡ form_at d e → Plain o → Decides (holds_here o) (Truth s i (formula_at d e))
+    holds_so o good b is p =
+        subst (λ x. Decides (holds_here o) (Truth s i x)) (ap (built d.progs (formulas d.progs [] d.forms)) is ∙ sym (formula_is d good e b))
+        (holds_built o (subst (Refers d e) (sym is) (good.refers e b)) p)
 
   -- the states that reach a final one tell whether an until holds
-  pub until-so : (short : stem < length steps) (low : (i : ℕ) → i < length steps → stepAt steps i .action < 16) (e f p g : ℕ) → Well-formed d → e < length (d .forms)
-      → Until f p g ≡ form-at d e → (a : Automaton) → Automaton-of (program-at d p) (a .states) (a .next) (a .finals) → (truths states : List ℕ) → Judged d steps stem e 0 truths
-      → ((i q : ℕ) → i < length steps → Bit (getD states i 0) q ↔ Reaches a steps stem truths f g i q)
-      → (i : ℕ) → i < length steps → Bit (getD states i 0) 0 ↔ Truth (reading steps stem) i (formula-at d e)
-  until-so short low e f p g good b is a of truths states j found i l =
-      let r : Refers d e (Until f p g) = subst (Refers d e) (sym is) (good .refers e b) in
-      let formula = ap (built (d .progs) (formulas (d .progs) [] (d .forms))) is ∙ sym (formula-is d good e b) in
-      let t = reaches-until a steps stem truths f g short low (program-at d p) of (formula-at d f) (formula-at d g)
-      (λ k. judged-tells d steps stem e 0 truths j f k (r .0)) (λ k. judged-tells d steps stem e 0 truths j g k (r .2)) i l in
+  pub until_so : (short : stem < length steps) (low : (i : ℕ) → i < length steps → (step_in steps i).action < 16) (e f p g : ℕ) → WellFormed d → e < length d.forms
+      → Until f p g ≡ form_at d e → (a : Automaton) → AutomatonOf (program_at d p) a.states a.next a.finals → (truths states : List ℕ) → Judged d steps stem e 0 truths
+      → ((i q : ℕ) → i < length steps → Bit (get_or states i 0) q ↔ Reaches a steps stem truths f g i q)
+      → (i : ℕ) → i < length steps → Bit (get_or states i 0) 0 ↔ Truth (reading steps stem) i (formula_at d e)
+  until_so short low e f p g good b is a of truths states j found i l =
+      let r : Refers d e (Until f p g) = subst (Refers d e) (sym is) (good.refers e b) in
+      let formula = ap (built d.progs (formulas d.progs [] d.forms)) is ∙ sym (formula_is d good e b) in
+      let t = reaches_until a steps stem truths f g short low (program_at d p) of (formula_at d f) (formula_at d g)
+      (λ k. judged_tells d steps stem e 0 truths j f k r.0) (λ k. judged_tells d steps stem e 0 truths j g k r.2) i l in
       let h = found i 0 l in (
-        λ x. subst (λ y. Truth (reading steps stem) i y) formula (t .0 (h .0 x)),
-        λ x. h .1 (t .1 (subst (λ y. Truth (reading steps stem) i y) (sym formula) x)),
+        λ x. subst (λ y. Truth (reading steps stem) i y) formula (t.0 (h.0 x)),
+        λ x. h.1 (t.1 (subst (λ y. Truth (reading steps stem) i y) (sym formula) x)),
       )

@@ -1,99 +1,93 @@
 -- Marks read name by name, and the mask that stands for them.
-use mathlib.Core.Path.{_≡_, refl, sym, _∙_, ap, subst}
-use mathlib.Core.Bool.{Bool, true, false, cond}
-use mathlib.Core.List.{List, [], _∷_, _++_, append-assoc, append-nil}
-use mathlib.Core.Logic.{_⊎_, inl, inr, ⊎-elim, _↔_}
-use Prim.Native.Nat.{ℕ, suc, _+_, _-_, _^_, _<_, _≤_}
-use native.Mathlib.Omega.{arith}
-use lib.Bits.{bitOr}
-use lib.ListN.{length, getD, take, drop}
-use Rattle·std.specs.shelf.Lists.{All}
-use Rattle·std.proofs.shelf.Bits.{pow-below, or-lt}
-use Rattle·std.proofs.shelf.Elements.{all-append, all-getD}
-use Rattle·std.proofs.shelf.Lists.{take-append-drop, take-take, length-take-le, getD-append-left, getD-push, getD-at, length-push, length-append, take-rest}
-use Rattle·std.proofs.shelf.Tests.{cases-lt, cases-eq, cases-order, cond-false, ne-eqb, eq-eqb, true≢false, false≢true}
-use Rattle·std.proofs.shelf.Ways.{decides-eqb, decides-like, same-from-decides}
-use Rattle·program.specs.Masks.{Bit}
-use Rattle·program.specs.Names.{Named, Missing, Number}
-use Rattle·program.proofs.Bits.{bit-or, bit-one, bit-past}
-use Rattle·document.specs.Texts.{pieces}
-use Rattle·document.proofs.Pieces.{Clear, piece-last, piece-next, pieces-some}
-use Rattle·lasso·specs.LassoTexts.{marked, joined}
-use Rattle·lasso·specs.MarkFields.{Adds-mark, Refuses-mark, Marks-read, No-marks}
-use Rattle·lasso·specs.LassoLines.{Ordered}
-use Rattle·lasso·specs.Sessions.{bit-of}
-use Rattle·lasso·specs.declared.scan.Marks.{Marks}
-use Rattle·lasso·proofs.Lines.{marked-more}
-use Rattle·lasso·proofs.Splits.{together, together-is}
-use Rattle·lasso·proofs.Worded.{joined-pieces}
+use Rattle.std.proofs.Common.{◌≡◌, ℕ, suc, ◌+◌, ◌-◌, ◌^◌, ◌<◌, ◌≤◌, Bool, true, false, cond, ◌⊎◌, ◌↔◌, List, [], ◌∷◌, ◌++◌, length, get_or, take, drop, sym, refl, ap, ◌∙◌, subst, inl, inr, ⊎_elim, append_assoc, append-nil, arith}
+use lib.Bits.{bit_or}
+use Rattle.std.specs.List.{AllByRecursion as All}
+use Rattle.std.proofs.lemmas.Nat.{pow_below, or_lt}
+use Rattle.std.proofs.ByRecursion.{All-append, All-get_or}
+use Rattle.std.proofs.lemmas.List.{take-append-drop, take-take, length-take-le, get_or_append_left, get_or_push, get_or_at, length_push, length-append, take_rest}
+use Rattle.std.proofs.lemmas.Bool.{cases_lt, cases_eq, cases_order, cond-false, ne_eqb, eq-eqb, true≢false, false≢true}
+use Rattle.std.proofs.lemmas.Bool.Decides.{Decides-eqb, Decides-like, same_from_decides}
+use Rattle.program.specs.Masks.{Bit}
+use Rattle.program.specs.Names.{Named, Missing, Number}
+use Rattle.program.proofs.Bits.{bit_of_or, bit_one, bit_past}
+use Rattle.document.specs.Texts.{pieces}
+use Rattle.document.proofs.Pieces.{Clear, piece_last, piece_next, pieces_some}
+use Rattle.lasso.specs.LassoTexts.{marked, joined}
+use Rattle.lasso.specs.MarkFields.{AddsMark, RefusesMark, MarksRead, NoMarks}
+use Rattle.lasso.specs.LassoLines.{Ordered}
+use Rattle.lasso.specs.Sessions.{bit_of}
+use Rattle.lasso.specs.declared.scan.Marks.{Marks}
+use Rattle.lasso.proofs.Lines.{marked_more}
+use Rattle.lasso.proofs.Splits.{together, together_is}
+use Rattle.lasso.proofs.Worded.{joined_pieces}
 
 -- a name has one number
-pub number-same : (names : List (List ℕ)) (n : List ℕ) (a b : ℕ) → Number names n a → Number names n b → a ≡ b
-number-same names n a b x y =
-    ⊎-elim (λ e. e) (⊎-elim (λ l. absurd (y .2 a l (x .1))) (λ l. absurd (x .2 b l (y .1)))) (cases-order a b)
+pub number_same : (names : List (List ℕ)) (n : List ℕ) (a b : ℕ) → Number names n a → Number names n b → a ≡ b
+number_same names n a b x y =
+    ⊎_elim (λ e. e) (⊎_elim (λ l. absurd (y.2 a l x.1)) (λ l. absurd (x.2 b l y.1))) (cases_order a b)
 
-pub number-not-missing : (names : List (List ℕ)) (n : List ℕ) (a : ℕ) → Number names n a → Missing names n → ⊥
-number-not-missing names n a x m = m a (x .0) (x .1)
+pub number_not_missing : (names : List (List ℕ)) (n : List ℕ) (a : ℕ) → Number names n a → Missing names n → ⊥
+number_not_missing names n a x m = m a x.0 x.1
 
-pub bit-same : (m k i : ℕ) → Bit m i ↔ Bit k i → bit-of m i ≡ bit-of k i
-bit-same m k i s = same-from-decides (bit-of m i) (bit-of k i) (decides-like (bit-of m i) (s .0) (s .1) (decides-eqb _ 1)) (decides-eqb _ 1)
+pub bit_same : (m k i : ℕ) → Bit m i ↔ Bit k i → bit_of m i ≡ bit_of k i
+bit_same m k i s = same_from_decides (bit_of m i) (bit_of k i) (Decides-like (bit_of m i) s.0 s.1 (Decides-eqb _ 1)) (Decides-eqb _ 1)
 
-pub marked-same : (xs : List (List ℕ)) (q m k : ℕ) → ((i : ℕ) → q ≤ i → i < q + length xs → bit-of m i ≡ bit-of k i) → marked xs q m ≡ marked xs q k
-marked-same [] q m k h = refl
-marked-same (x ∷ xs) q m k h =
-    let rest = marked-same xs (suc q) m k (λ i l b. h i (omega arith) (omega arith)) in
+pub marked_same : (xs : List (List ℕ)) (q m k : ℕ) → ((i : ℕ) → q ≤ i → i < q + length xs → bit_of m i ≡ bit_of k i) → marked xs q m ≡ marked xs q k
+marked_same [] q m k h = refl
+marked_same (x ∷ xs) q m k h =
+    let rest = marked_same xs (suc q) m k (λ i l b. h i (omega arith) (omega arith)) in
     ap (λ (t : Bool). cond t (x ∷ marked xs (suc q) m) (marked xs (suc q) m)) (h q (omega arith) (omega arith))
-    ∙ ap (λ (l : List (List ℕ)). cond (bit-of k q) (x ∷ l) l) rest
+    ∙ ap (λ (l : List (List ℕ)). cond (bit_of k q) (x ∷ l) l) rest
 
-marked-clear : (xs : List (List ℕ)) (q m : ℕ) → m < 2 ^ q → marked xs q m ≡ []
-marked-clear [] q m h = refl
-marked-clear (x ∷ xs) q m h =
-    let up = pow-below q (suc q) (omega arith) in
-    cond-false (bit-of m q) _ _ (ne-eqb _ 1 (bit-past m q h)) ∙ marked-clear xs (suc q) m (omega arith)
+marked_clear : (xs : List (List ℕ)) (q m : ℕ) → m < 2 ^ q → marked xs q m ≡ []
+marked_clear [] q m h = refl
+marked_clear (x ∷ xs) q m h =
+    let up = pow_below q (suc q) (omega arith) in
+    cond-false (bit_of m q) _ _ (ne_eqb _ 1 (bit_past m q h)) ∙ marked_clear xs (suc q) m (omega arith)
 
-marked-append : (xs ys : List (List ℕ)) (q m k : ℕ) → k ≡ q + length xs → marked (xs ++ ys) q m ≡ marked xs q m ++ marked ys k m
-marked-append [] ys q m k is = ap (λ (j : ℕ). marked ys j m) (omega arith)
-marked-append (x ∷ xs) ys q m k is =
-    let rest = marked-append xs ys (suc q) m k (omega arith) in
-    elim (bit-of m q) as (λ b. cond b (x ∷ marked (xs ++ ys) (suc q) m) (marked (xs ++ ys) (suc q) m) ≡ cond b (x ∷ marked xs (suc q) m) (marked xs (suc q) m) ++ marked ys k m) [
+marked_append : (xs ys : List (List ℕ)) (q m k : ℕ) → k ≡ q + length xs → marked (xs ++ ys) q m ≡ marked xs q m ++ marked ys k m
+marked_append [] ys q m k is = ap (λ (j : ℕ). marked ys j m) (omega arith)
+marked_append (x ∷ xs) ys q m k is =
+    let rest = marked_append xs ys (suc q) m k (omega arith) in
+    elim (bit_of m q) as (λ b. cond b (x ∷ marked (xs ++ ys) (suc q) m) (marked (xs ++ ys) (suc q) m) ≡ cond b (x ∷ marked xs (suc q) m) (marked xs (suc q) m) ++ marked ys k m) [
       | true ↦ ap {B = List (List ℕ)} (λ l. x ∷ l) rest
       | false ↦ rest
     ]
 
 -- names past the highest bit play no part
-pub marked-low : (props : List (List ℕ)) (f m : ℕ) → f ≤ length props → m < 2 ^ f → marked props 0 m ≡ marked (take f props) 0 m
-marked-low props f m h l =
+pub marked_low : (props : List (List ℕ)) (f m : ℕ) → f ≤ length props → m < 2 ^ f → marked props 0 m ≡ marked (take f props) 0 m
+marked_low props f m h l =
     ap (λ (ps : List (List ℕ)). marked ps 0 m) (sym (take-append-drop f props))
-    ∙ marked-append (take f props) (drop f props) 0 m f (omega (arith, length-take-le f props h))
-    ∙ ap (λ (r : List (List ℕ)). marked (take f props) 0 m ++ r) (marked-clear (drop f props) f m l) ∙ append-nil _
+    ∙ marked_append (take f props) (drop f props) 0 m f (omega (arith, length-take-le f props h))
+    ∙ ap (λ (r : List (List ℕ)). marked (take f props) 0 m ++ r) (marked_clear (drop f props) f m l) ∙ append-nil _
 
 -- the next proposition is entered in the mask
-mask-more : (props : List (List ℕ)) (f p m : ℕ) → f ≤ p → p < length props → m < 2 ^ f
-    → marked (take (p + 1) props) 0 (bitOr m (2 ^ p)) ≡ marked (take f props) 0 m ++ getD props p [] ∷ []
-mask-more props f p m h l s =
-    let new = bitOr m (2 ^ p) in
-    let here : bit-of new p ≡ true = eq-eqb _ 1 (bit-or m (2 ^ p) p .1 (inr (bit-one p p .1 refl))) in
-    let front = marked-same (take p props) 0 new m (λ i a b. bit-same new m i (
-      λ x. ⊎-elim (λ y. y) (λ y. absurd (omega (arith, bit-one p i .0 y, length-take-le p props (omega arith)))) (bit-or m (2 ^ p) i .0 x),
-      λ x. bit-or m (2 ^ p) i .1 (inl x),
+mask_more : (props : List (List ℕ)) (f p m : ℕ) → f ≤ p → p < length props → m < 2 ^ f
+    → marked (take (p + 1) props) 0 (bit_or m (2 ^ p)) ≡ marked (take f props) 0 m ++ get_or props p [] ∷ []
+mask_more props f p m h l s =
+    let new = bit_or m (2 ^ p) in
+    let here : bit_of new p ≡ true = eq-eqb _ 1 ((bit_of_or m (2 ^ p) p).1 (inr ((bit_one p p).1 refl))) in
+    let front = marked_same (take p props) 0 new m (λ i a b. bit_same new m i (
+      λ x. ⊎_elim (λ y. y) (λ y. absurd (omega (arith, (bit_one p i).0 y, length-take-le p props (omega arith)))) ((bit_of_or m (2 ^ p) i).0 x),
+      λ x. (bit_of_or m (2 ^ p) i).1 (inl x),
     )) in
-    let low = marked-low (take p props) f m (omega (arith, length-take-le p props (omega arith))) s in
-    marked-more props p new l ∙ ap (λ (b : Bool). marked (take p props) 0 new ++ cond b (getD props p [] ∷ []) []) here
-    ∙ ap (λ (r : List (List ℕ)). r ++ getD props p [] ∷ []) (front ∙ low ∙ ap (λ (r : List (List ℕ)). marked r 0 m) (take-take f p props h))
+    let low = marked_low (take p props) f m (omega (arith, length-take-le p props (omega arith))) s in
+    marked_more props p new l ∙ ap (λ (b : Bool). marked (take p props) 0 new ++ cond b (get_or props p [] ∷ []) []) here
+    ∙ ap (λ (r : List (List ℕ)). r ++ get_or props p [] ∷ []) (front ∙ low ∙ ap (λ (r : List (List ℕ)). marked r 0 m) (take-take f p props h))
 
 -- names that were read, and the marks of them
 pub record Taken (props ns : List (List ℕ)) (m : Marks) : Type 0 where
   pub named : All Named ns
   pub ordered : Ordered props ns
-  pub below : (i a : ℕ) → i < length ns → Number props (getD ns i []) a → a < m .floor
-  pub top : (m .floor ≡ 0) ⊎ ((i : ℕ) × (a : ℕ) × (i < length ns) × Number props (getD ns i []) a × (m .floor ≡ a + 1))
-  pub high : m .floor ≤ length props
-  pub small : m .mask < 2 ^ m .floor
-  pub known : m .declared ≡ true → marked (take (m .floor) props) 0 (m .mask) ≡ ns
-  pub unknown : m .declared ≡ false → (i : ℕ) × (i < length ns) × Missing props (getD ns i [])
+  pub below : (i a : ℕ) → i < length ns → Number props (get_or ns i []) a → a < m.floor
+  pub top : (m.floor ≡ 0) ⊎ ((i : ℕ) × (a : ℕ) × (i < length ns) × Number props (get_or ns i []) a × (m.floor ≡ a + 1))
+  pub high : m.floor ≤ length props
+  pub small : m.mask < 2 ^ m.floor
+  pub known : m.declared ≡ true → marked (take m.floor props) 0 m.mask ≡ ns
+  pub unknown : m.declared ≡ false → (i : ℕ) × (i < length ns) × Missing props (get_or ns i [])
 
-pub taken-none : (props : List (List ℕ)) → Taken props [] (record { mask = 0; declared = true; floor = 0 })
-taken-none props = record {
+pub taken_none : (props : List (List ℕ)) → Taken props [] (record { mask = 0; declared = true; floor = 0 })
+taken_none props = record {
   named = tt;
   ordered = λ i j a b h l. absurd (omega arith);
   below = λ i a h. absurd (omega arith);
@@ -104,80 +98,80 @@ taken-none props = record {
   unknown = λ e. absurd (true≢false e);
 }
 
-ordered-push : (props ns : List (List ℕ)) (n : List ℕ) → Ordered props ns
-    → ((i a b : ℕ) → i < length ns → Number props (getD ns i []) a → Number props n b → a < b) → Ordered props (ns ++ n ∷ [])
-ordered-push props ns n old new i j a b h l x y =
-    let long = length-push ns n in
-    let first : Number props (getD ns i []) a = subst (λ (v : List ℕ). Number props v a) (getD-append-left ns (n ∷ []) [] i (omega arith)) x in
-    ⊎-elim (λ e. new i a b (omega arith) first (subst (λ (v : List ℕ). Number props v b) (getD-push ns n [] j (sym e)) y))
-    (λ e. old i j a b h (omega arith) first (subst (λ (v : List ℕ). Number props v b) (getD-append-left ns (n ∷ []) [] j (omega arith)) y)) (cases-eq j (length ns))
+ordered_push : (props ns : List (List ℕ)) (n : List ℕ) → Ordered props ns
+    → ((i a b : ℕ) → i < length ns → Number props (get_or ns i []) a → Number props n b → a < b) → Ordered props (ns ++ n ∷ [])
+ordered_push props ns n old new i j a b h l x y =
+    let long = length_push ns n in
+    let first : Number props (get_or ns i []) a = subst (λ (v : List ℕ). Number props v a) (get_or_append_left ns (n ∷ []) [] i (omega arith)) x in
+    ⊎_elim (λ e. new i a b (omega arith) first (subst (λ (v : List ℕ). Number props v b) (get_or_push ns n [] j (sym e)) y))
+    (λ e. old i j a b h (omega arith) first (subst (λ (v : List ℕ). Number props v b) (get_or_append_left ns (n ∷ []) [] j (omega arith)) y)) (cases_eq j (length ns))
 
 module _ (props ns : List (List ℕ)) (n : List ℕ) (m : Marks) (t : Taken props ns m) where
-  stays : (P : List ℕ → Type 0) (i : ℕ) → i < length ns → P (getD ns i []) → P (getD (ns ++ n ∷ []) i [])
-  stays P i h x = subst P (sym (getD-append-left ns (n ∷ []) [] i h)) x
+  stays : (P : List ℕ → Type 0) (i : ℕ) → i < length ns → P (get_or ns i []) → P (get_or (ns ++ n ∷ []) i [])
+  stays P i h x = subst P (sym (get_or_append_left ns (n ∷ []) [] i h)) x
 
-  back : (P : List ℕ → Type 0) (i : ℕ) → i < length (ns ++ n ∷ []) → P (getD (ns ++ n ∷ []) i []) → ((i < length ns) × P (getD ns i [])) ⊎ P n
+  back : (P : List ℕ → Type 0) (i : ℕ) → i < length (ns ++ n ∷ []) → P (get_or (ns ++ n ∷ []) i []) → ((i < length ns) × P (get_or ns i [])) ⊎ P n
   back P i h x =
-      let long = length-push ns n in
-      ⊎-elim (λ l. inl (l, subst P (getD-append-left ns (n ∷ []) [] i l) x)) (λ l. inr (subst P (getD-push ns n [] i (omega arith)) x)) (cases-lt i (length ns))
+      let long = length_push ns n in
+      ⊎_elim (λ l. inl (l, subst P (get_or_append_left ns (n ∷ []) [] i l) x)) (λ l. inr (subst P (get_or_push ns n [] i (omega arith)) x)) (cases_lt i (length ns))
 
   -- one name more that is not declared
-  taken-other : Named n → Missing props n → Taken props (ns ++ n ∷ []) (record { mask = m .mask; declared = false; floor = m .floor })
-  taken-other h miss = record {
-    named = all-append Named ns (n ∷ []) (t .named) (h, tt);
-    ordered = ordered-push props ns n (t .ordered) (λ i a b l x y. absurd (number-not-missing props n b y miss));
-    below = λ i a l x. ⊎-elim (λ y. t .below i a (y .0) (y .1)) (λ y. absurd (number-not-missing props n a y miss)) (back (λ v. Number props v a) i l x);
-    top = ⊎-elim inl (λ s. inr (s .0, s .1, omega (arith, s .2, length-push ns n), stays (λ v. Number props v (s .1)) (s .0) (s .2) (s .3), s .4)) (t .top);
-    high = t .high;
-    small = t .small;
+  taken_other : Named n → Missing props n → Taken props (ns ++ n ∷ []) (record { mask = m.mask; declared = false; floor = m.floor })
+  taken_other h miss = record {
+    named = All-append Named ns (n ∷ []) t.named (h, tt);
+    ordered = ordered_push props ns n t.ordered (λ i a b l x y. absurd (number_not_missing props n b y miss));
+    below = λ i a l x. ⊎_elim (λ y. t.below i a y.0 y.1) (λ y. absurd (number_not_missing props n a y miss)) (back (λ v. Number props v a) i l x);
+    top = ⊎_elim inl (λ s. inr (s.0, s.1, omega (arith, s.2, length_push ns n), stays (λ v. Number props v s.1) s.0 s.2 s.3, s.4)) t.top;
+    high = t.high;
+    small = t.small;
     known = λ e. absurd (false≢true e);
-    unknown = λ e. (length ns, omega (arith, length-push ns n), subst (Missing props) (sym (getD-push ns n [] (length ns) refl)) miss);
+    unknown = λ e. (length ns, omega (arith, length_push ns n), subst (Missing props) (sym (get_or_push ns n [] (length ns) refl)) miss);
   }
 
   -- one proposition more
-  taken-next : (p : ℕ) → Named n → Number props n p → m .floor ≤ p
-      → Taken props (ns ++ n ∷ []) (record { mask = bitOr (m .mask) (2 ^ p); declared = m .declared; floor = p + 1 })
-  taken-next p h num l = record {
-    named = all-append Named ns (n ∷ []) (t .named) (h, tt);
-    ordered = ordered-push props ns n (t .ordered) (λ i a b k x y. let e = number-same props n b p y num in let f = t .below i a k x in omega arith);
-    below = λ i a k x. ⊎-elim (λ y. let f = t .below i a (y .0) (y .1) in omega arith) (λ y. let e = number-same props n a p y num in omega arith) (back (λ v. Number props v a) i k x);
-    top = inr (length ns, p, omega (arith, length-push ns n), subst (λ (v : List ℕ). Number props v p) (sym (getD-push ns n [] (length ns) refl)) num, refl);
-    high = omega (arith, num .0);
-    small = let s = pow-below (m .floor) (p + 1) (omega arith) in or-lt (p + 1) (m .mask) (2 ^ p) (omega (arith, t .small)) (pow-below p (p + 1) (omega arith));
-    known = λ e. mask-more props (m .floor) p (m .mask) l (num .0) (t .small) ∙ ap (λ (r : List (List ℕ)). r ++ getD props p [] ∷ []) (t .known e) ∙ ap (λ (v : List ℕ). ns ++ v ∷ []) (num .1);
-    unknown = λ e. let u = t .unknown e in (u .0, omega (arith, u .1, length-push ns n), stays (Missing props) (u .0) (u .1) (u .2));
+  taken_next : (p : ℕ) → Named n → Number props n p → m.floor ≤ p
+      → Taken props (ns ++ n ∷ []) (record { mask = bit_or m.mask (2 ^ p); declared = m.declared; floor = p + 1 })
+  taken_next p h num l = record {
+    named = All-append Named ns (n ∷ []) t.named (h, tt);
+    ordered = ordered_push props ns n t.ordered (λ i a b k x y. let e = number_same props n b p y num in let f = t.below i a k x in omega arith);
+    below = λ i a k x. ⊎_elim (λ y. let f = t.below i a y.0 y.1 in omega arith) (λ y. let e = number_same props n a p y num in omega arith) (back (λ v. Number props v a) i k x);
+    top = inr (length ns, p, omega (arith, length_push ns n), subst (λ (v : List ℕ). Number props v p) (sym (get_or_push ns n [] (length ns) refl)) num, refl);
+    high = omega (arith, num.0);
+    small = let s = pow_below m.floor (p + 1) (omega arith) in or_lt (p + 1) m.mask (2 ^ p) (omega (arith, t.small)) (pow_below p (p + 1) (omega arith));
+    known = λ e. mask_more props m.floor p m.mask l num.0 t.small ∙ ap (λ (r : List (List ℕ)). r ++ get_or props p [] ∷ []) (t.known e) ∙ ap (λ (v : List ℕ). ns ++ v ∷ []) num.1;
+    unknown = λ e. let u = t.unknown e in (u.0, omega (arith, u.1, length_push ns n), stays (Missing props) u.0 u.1 u.2);
   }
 
-  pub taken-more : (new : Marks) → Adds-mark props n m new → Taken props (ns ++ n ∷ []) new
-  taken-more new a =
+  pub taken_more : (new : Marks) → AddsMark props n m new → Taken props (ns ++ n ∷ []) new
+  taken_more new a =
       let P : Marks → Type 0 = λ v. Taken props (ns ++ n ∷ []) v in
-      ⊎-elim (λ x. subst P (sym (x .1)) (taken-other (a .0) (x .0))) (λ x. subst P (sym (x .3)) (taken-next (x .0) (a .0) (x .1) (x .2))) (a .1)
+      ⊎_elim (λ x. subst P (sym x.1) (taken_other a.0 x.0)) (λ x. subst P (sym x.3) (taken_next x.0 a.0 x.1 x.2)) a.1
 
   -- no names that begin so are in order
-  pub taken-refused : Refuses-mark props n m → (rest : List (List ℕ)) → All Named (ns ++ n ∷ rest) → Ordered props (ns ++ n ∷ rest) → ⊥
-  taken-refused r rest all ord =
-      let here : getD (ns ++ n ∷ rest) (length ns) [] ≡ n = getD-at ns n rest [] (length ns) refl in
+  pub taken_refused : RefusesMark props n m → (rest : List (List ℕ)) → All Named (ns ++ n ∷ rest) → Ordered props (ns ++ n ∷ rest) → ⊥
+  taken_refused r rest all ord =
+      let here : get_or (ns ++ n ∷ rest) (length ns) [] ≡ n = get_or_at ns n rest [] (length ns) refl in
       let long = length-append ns (n ∷ rest) in
-      ⊎-elim (λ no. no (subst Named here (all-getD Named (ns ++ n ∷ rest) (length ns) [] (omega arith) all)))
-      (λ x. ⊎-elim (λ z. omega (arith, x .2))
+      ⊎_elim (λ no. no (subst Named here (All-get_or Named (ns ++ n ∷ rest) (length ns) [] (omega arith) all)))
+      (λ x. ⊎_elim (λ z. omega (arith, x.2))
       (λ s.
-      let first : Number props (getD (ns ++ n ∷ rest) (s .0) []) (s .1) = subst (λ (v : List ℕ). Number props v (s .1)) (sym (getD-append-left ns (n ∷ rest) [] (s .0) (s .2))) (s .3) in
-      let second : Number props (getD (ns ++ n ∷ rest) (length ns) []) (x .0) = subst (λ (v : List ℕ). Number props v (x .0)) (sym here) (x .1) in
-      omega (arith, x .2, s .4, ord (s .0) (length ns) (s .1) (x .0) (s .2) (omega arith) first second))
-      (t .top))
+      let first : Number props (get_or (ns ++ n ∷ rest) s.0 []) s.1 = subst (λ (v : List ℕ). Number props v s.1) (sym (get_or_append_left ns (n ∷ rest) [] s.0 s.2)) s.3 in
+      let second : Number props (get_or (ns ++ n ∷ rest) (length ns) []) x.0 = subst (λ (v : List ℕ). Number props v x.0) (sym here) x.1 in
+      omega (arith, x.2, s.4, ord s.0 (length ns) s.1 x.0 s.2 (omega arith) first second))
+      t.top)
       r
 
 -- at the end
-pub taken-read : (props ns : List (List ℕ)) (m : Marks) → Taken props ns m → Marks-read props ns m
-taken-read props ns m t = record {
-  named = t .named;
-  ordered = t .ordered;
-  known = λ e. (marked-low props (m .floor) (m .mask) (t .high) (t .small) ∙ t .known e, low (m .floor) (length props) (m .mask) (t .high) (t .small));
-  unknown = t .unknown;
+pub taken_read : (props ns : List (List ℕ)) (m : Marks) → Taken props ns m → MarksRead props ns m
+taken_read props ns m t = record {
+  named = t.named;
+  ordered = t.ordered;
+  known = λ e. (marked_low props m.floor m.mask t.high t.small ∙ t.known e, low m.floor (length props) m.mask t.high t.small);
+  unknown = t.unknown;
 }
   where
     low : (f n m : ℕ) → f ≤ n → m < 2 ^ f → m < 2 ^ n
-    low f n m h l = ⊎-elim (λ e. subst (λ (k : ℕ). m < 2 ^ k) e l) (λ e. let p = pow-below f n (omega arith) in omega arith) (cases-eq f n)
+    low f n m h l = ⊎_elim (λ e. subst (λ (k : ℕ). m < 2 ^ k) e l) (λ e. let p = pow_below f n (omega arith) in omega arith) (cases_eq f n)
 
 -- what is left of the pieces of a text from a place on: none past its end
 abbrev pub Rest : List ℕ → ℕ → List (List ℕ) → Type 0
@@ -192,60 +186,60 @@ pub record Walked (props : List (List ℕ)) (text : List ℕ) (at : ℕ) (m : Ma
   pub left : Rest text at rest
   pub all : pieces 44 text ≡ read ++ rest
 
-module _ (text : List ℕ) (at end : ℕ) (low : at ≤ end) (high : end ≤ length text) (clear : Clear 44 text at end) (here : end < length text → getD text end 0 ≡ 44) where
+module _ (text : List ℕ) (at end : ℕ) (low : at ≤ end) (high : end ≤ length text) (clear : Clear 44 text at end) (here : end < length text → get_or text end 0 ≡ 44) where
   -- the piece up to the next comma, and what is left after it
-  next-piece : (rest : List (List ℕ)) → Rest text at rest → (after : List (List ℕ)) × (rest ≡ take (end - at) (drop at text) ∷ after) × Rest text (end + 1) after
-  next-piece rest l =
-      ⊎-elim
-      (λ x. ⊎-elim
-      (λ less. (pieces 44 (drop (end + 1) text), x .1 ∙ piece-next 44 text at end low less clear (here less), inl (omega arith, refl)))
+  next_piece : (rest : List (List ℕ)) → Rest text at rest → (after : List (List ℕ)) × (rest ≡ take (end - at) (drop at text) ∷ after) × Rest text (end + 1) after
+  next_piece rest l =
+      ⊎_elim
+      (λ x. ⊎_elim
+      (λ less. (pieces 44 (drop (end + 1) text), x.1 ∙ piece_next 44 text at end low less clear (here less), inl (omega arith, refl)))
       (λ more.
       let e : end ≡ length text = omega arith in (
         [],
-        x .1 ∙ piece-last 44 text at (subst (Clear 44 text at) e clear) ∙ ap (λ (v : List ℕ). v ∷ []) (sym (take-rest text at) ∙ ap (λ (k : ℕ). take (k - at) (drop at text)) (sym e)),
+        x.1 ∙ piece_last 44 text at (subst (Clear 44 text at) e clear) ∙ ap (λ (v : List ℕ). v ∷ []) (sym (take_rest text at) ∙ ap (λ (k : ℕ). take (k - at) (drop at text)) (sym e)),
         inr (omega arith, refl),
       ))
-      (cases-lt end (length text)))
-      (λ x. absurd (omega (arith, x .0)))
+      (cases_lt end (length text)))
+      (λ x. absurd (omega (arith, x.0)))
       l
 
-  pub walked-more : (props : List (List ℕ)) (m new : Marks) → Walked props text at m → Adds-mark props (take (end - at) (drop at text)) m new → Walked props text (end + 1) new
-  walked-more props m new w a =
+  pub walked_more : (props : List (List ℕ)) (m new : Marks) → Walked props text at m → AddsMark props (take (end - at) (drop at text)) m new → Walked props text (end + 1) new
+  walked_more props m new w a =
       let n = take (end - at) (drop at text) in
-      let next = next-piece (w .rest) (w .left) in
+      let next = next_piece w.rest w.left in
       record {
         near = omega arith;
-        read = w .read ++ n ∷ [];
-        rest = next .0;
-        taken = taken-more props (w .read) n m (w .taken) new a;
-        left = next .2;
-        all = w .all ∙ ap (λ (r : List (List ℕ)). w .read ++ r) (next .1) ∙ sym (append-assoc (w .read) (n ∷ []) (next .0));
+        read = w.read ++ n ∷ [];
+        rest = next.0;
+        taken = taken_more props w.read n m w.taken new a;
+        left = next.2;
+        all = w.all ∙ ap (λ (r : List (List ℕ)). w.read ++ r) next.1 ∙ sym (append_assoc w.read (n ∷ []) next.0);
       }
 
   -- a name is refused
-  pub walked-refused : (props : List (List ℕ)) (m : Marks) → Walked props text at m → (text ≡ 45 ∷ [] → ⊥) → Refuses-mark props (take (end - at) (drop at text)) m → No-marks props text
-  walked-refused props m w dash r [] all ord is = dash is
-  walked-refused props m w dash r (v ∷ vs) all ord is =
+  pub walked_refused : (props : List (List ℕ)) (m : Marks) → Walked props text at m → (text ≡ 45 ∷ [] → ⊥) → RefusesMark props (take (end - at) (drop at text)) m → NoMarks props text
+  walked_refused props m w dash r [] all ord is = dash is
+  walked_refused props m w dash r (v ∷ vs) all ord is =
       let n = take (end - at) (drop at text) in
-      let next = next-piece (w .rest) (w .left) in
-      let e : v ∷ vs ≡ w .read ++ n ∷ next .0 = sym (joined-pieces v vs all) ∙ ap (pieces 44) (sym is) ∙ w .all ∙ ap (λ (q : List (List ℕ)). w .read ++ q) (next .1) in
-      taken-refused props (w .read) n m (w .taken) r (next .0) (subst (All Named) e all) (subst (Ordered props) e ord)
+      let next = next_piece w.rest w.left in
+      let e : v ∷ vs ≡ w.read ++ n ∷ next.0 = sym (joined_pieces v vs all) ∙ ap (pieces 44) (sym is) ∙ w.all ∙ ap (λ (q : List (List ℕ)). w.read ++ q) next.1 in
+      taken_refused props w.read n m w.taken r next.0 (subst (All Named) e all) (subst (Ordered props) e ord)
 
-pub together-joined : (ps : List (List ℕ)) → 0 < length ps → joined ps ≡ together 44 ps
-together-joined [] h = absurd (omega arith)
-together-joined (p ∷ ps) h = refl
+pub together_joined : (ps : List (List ℕ)) → 0 < length ps → joined ps ≡ together 44 ps
+together_joined [] h = absurd (omega arith)
+together_joined (p ∷ ps) h = refl
 
-pub walked-all : (props : List (List ℕ)) (text : List ℕ) (at : ℕ) (m : Marks) → length text < at → Walked props text at m
-    → (names : List (List ℕ)) × (text ≡ joined names) × Marks-read props names m
-walked-all props text at m h w =
-    ⊎-elim (λ x. absurd (omega (arith, x .0)))
+pub walked_all : (props : List (List ℕ)) (text : List ℕ) (at : ℕ) (m : Marks) → length text < at → Walked props text at m
+    → (names : List (List ℕ)) × (text ≡ joined names) × MarksRead props names m
+walked_all props text at m h w =
+    ⊎_elim (λ x. absurd (omega (arith, x.0)))
     (λ x.
-    let e : pieces 44 text ≡ w .read = w .all ∙ ap (λ (r : List (List ℕ)). w .read ++ r) (x .1) ∙ append-nil (w .read) in
-    (w .read, sym (ap joined (sym e) ∙ together-joined (pieces 44 text) (pieces-some 44 text) ∙ together-is 44 text), taken-read props (w .read) m (w .taken)))
-    (w .left)
+    let e : pieces 44 text ≡ w.read = w.all ∙ ap (λ (r : List (List ℕ)). w.read ++ r) x.1 ∙ append-nil w.read in
+    (w.read, sym (ap joined (sym e) ∙ together_joined (pieces 44 text) (pieces_some 44 text) ∙ together_is 44 text), taken_read props w.read m w.taken))
+    w.left
 
 -- a field that is a dash
-pub one-byte : (xs : List ℕ) (b : ℕ) → length xs ≡ 1 → getD xs 0 0 ≡ b → xs ≡ b ∷ []
-one-byte [] b h e = absurd (omega arith)
-one-byte (x ∷ []) b h e = ap (λ (v : ℕ). v ∷ []) e
-one-byte (x ∷ y ∷ xs) b h e = absurd (omega arith)
+pub one_byte : (xs : List ℕ) (b : ℕ) → length xs ≡ 1 → get_or xs 0 0 ≡ b → xs ≡ b ∷ []
+one_byte [] b h e = absurd (omega arith)
+one_byte (x ∷ []) b h e = ap (λ (v : ℕ). v ∷ []) e
+one_byte (x ∷ y ∷ xs) b h e = absurd (omega arith)

@@ -1,13 +1,12 @@
 -- The names that a document in memory declares.
-use mathlib.Core.List.{List}
-use Prim.Native.Nat.{ℕ}
-use Rattle·document.specs.Kept.{names-of}
-use Rattle·document.specs.declared.declared.Declared.{Declared}
+use Rattle.std.specs.Prelude.{ℕ, List}
+use Rattle.document.specs.Kept.{names_of}
+use Rattle.document.specs.declared.declared.Declared.{Declared}
 
 -- the names of actions, by their numbers
-abbrev pub acts-of : Declared → List (List ℕ)
-acts-of d = names-of (d .acts)
+abbrev pub acts_of : Declared → List (List ℕ)
+acts_of d = names_of d.acts
 
 -- the names of propositions, by their numbers
-abbrev pub props-of : Declared → List (List ℕ)
-props-of d = names-of (d .props)
+abbrev pub props_of : Declared → List (List ℕ)
+props_of d = names_of d.props

@@ -1,58 +1,53 @@
 -- The text of a lasso: a line for each step.
-use mathlib.Core.Bool.{Bool, cond}
-use mathlib.Core.List.{List, [], _∷_, _++_}
-use Prim.Native.Nat.{ℕ, suc, _+_, _/_, _%_, _^_}
-use lib.Chars.{codes}
-use lib.Dec.{eqb, ltb, leb}
-use lib.ListN.{getD}
-use Rattle·lasso·specs.declared.step.Step.{Step}
+use Rattle.std.specs.Prelude.{ℕ, suc, ◌+◌, ◌/◌, ◌%◌, ◌^◌, Bool, cond, List, [], ◌∷◌, ◌++◌, codes, ◌==◌, nat_le, nat_lt, slice_index_or}
+use Rattle.lasso.specs.declared.step.Step.{Step}
 
 -- a number below ten thousand in decimal, without leading zeros
 abbrev pub decimal : ℕ → List ℕ
 decimal n =
-    cond (leb 1000 n) ((48 + n / 1000) ∷ (48 + n / 100 % 10) ∷ (48 + n / 10 % 10) ∷ (48 + n % 10) ∷ [])
-    (cond (leb 100 n) ((48 + n / 100) ∷ (48 + n / 10 % 10) ∷ (48 + n % 10) ∷ [])
-    (cond (leb 10 n) ((48 + n / 10) ∷ (48 + n % 10) ∷ []) ((48 + n) ∷ [])))
+    cond (nat_le 1000 n) ((48 + n / 1000) ∷ (48 + n / 100 % 10) ∷ (48 + n / 10 % 10) ∷ (48 + n % 10) ∷ [])
+    (cond (nat_le 100 n) ((48 + n / 100) ∷ (48 + n / 10 % 10) ∷ (48 + n % 10) ∷ [])
+    (cond (nat_le 10 n) ((48 + n / 10) ∷ (48 + n % 10) ∷ []) ((48 + n) ∷ [])))
 
 -- the names of the propositions of a set, in their order, where the first name has number p
 abbrev pub marked : List (List ℕ) → ℕ → ℕ → List (List ℕ)
 marked [] p marks = []
-marked (n ∷ ns) p marks = cond (eqb (marks / 2 ^ p % 2) 1) (n ∷ marked ns (suc p) marks) (marked ns (suc p) marks)
+marked (n ∷ ns) p marks = cond (marks / 2 ^ p % 2 == 1) (n ∷ marked ns (suc p) marks) (marked ns (suc p) marks)
 
 -- pieces, each after the byte b
-abbrev pub each-after : ℕ → List (List ℕ) → List ℕ
-each-after b [] = []
-each-after b (p ∷ ps) = b ∷ (p ++ each-after b ps)
+abbrev pub each_after : ℕ → List (List ℕ) → List ℕ
+each_after b [] = []
+each_after b (p ∷ ps) = b ∷ (p ++ each_after b ps)
 
 -- names joined by commas, or a dash if there are none
 abbrev pub joined : List (List ℕ) → List ℕ
 joined [] = 45 ∷ []
-joined (n ∷ ns) = n ++ each-after 44 ns
+joined (n ∷ ns) = n ++ each_after 44 ns
 
 -- the words of a step line: stem or loop, the action's name, the state, the names of the marks
 pub record Words : Type 0 where
-  pub in-stem : Bool
+  pub in_stem : Bool
   pub action : List ℕ
   pub state : ℕ
   pub marks : List (List ℕ)
 
 -- the line of such words, without its line feed
 abbrev pub worded : Words → List ℕ
-worded w = cond (w .in-stem) (codes "stem") (codes "loop") ++ 9 ∷ (w .action ++ 9 ∷ (decimal (w .state) ++ 9 ∷ joined (w .marks)))
+worded w = cond w.in_stem (codes "stem") (codes "loop") ++ 9 ∷ (w.action ++ 9 ∷ (decimal w.state ++ 9 ∷ joined w.marks))
 
 -- the words of a step, over the names of actions and propositions: marks in proposition order
-abbrev pub words-of : List (List ℕ) → List (List ℕ) → Bool → Step → Words
-words-of acts props in-stem s = record { in-stem = in-stem; action = getD acts (s .action) []; state = s .state; marks = marked props 0 (s .marks) }
+abbrev pub words_of : List (List ℕ) → List (List ℕ) → Bool → Step → Words
+words_of acts props in_stem s = record { in_stem = in_stem; action = slice_index_or acts s.action []; state = s.state; marks = marked props 0 s.marks }
 
 -- the line of a step
-abbrev pub step-line : List (List ℕ) → List (List ℕ) → Bool → Step → List ℕ
-step-line acts props in-stem s = worded (words-of acts props in-stem s) ++ 10 ∷ []
+abbrev pub step_line : List (List ℕ) → List (List ℕ) → Bool → Step → List ℕ
+step_line acts props in_stem s = worded (words_of acts props in_stem s) ++ 10 ∷ []
 
 -- the lines of steps of which the first is number i
-abbrev pub lines-from : List (List ℕ) → List (List ℕ) → ℕ → ℕ → List Step → List ℕ
-lines-from acts props stem i [] = []
-lines-from acts props stem i (s ∷ ss) = step-line acts props (ltb i stem) s ++ lines-from acts props stem (suc i) ss
+abbrev pub lines_from : List (List ℕ) → List (List ℕ) → ℕ → ℕ → List Step → List ℕ
+lines_from acts props stem i [] = []
+lines_from acts props stem i (s ∷ ss) = step_line acts props (nat_lt i stem) s ++ lines_from acts props stem (suc i) ss
 
 -- the text that spells the lasso, over the names of actions and propositions
-abbrev pub lasso-text : List (List ℕ) → List (List ℕ) → List Step → ℕ → List ℕ
-lasso-text acts props steps stem = lines-from acts props stem 0 steps
+abbrev pub lasso_text : List (List ℕ) → List (List ℕ) → List Step → ℕ → List ℕ
+lasso_text acts props steps stem = lines_from acts props stem 0 steps

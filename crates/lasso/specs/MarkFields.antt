@@ -1,35 +1,29 @@
 -- The marks of a line, read name by name.
-use mathlib.Core.Path.{_≡_}
-use mathlib.Core.Bool.{true, false}
-use mathlib.Core.List.{List, []}
-use mathlib.Core.Logic.{_⊎_}
-use Prim.Native.Nat.{ℕ, _+_, _^_, _<_, _≤_}
-use lib.Bits.{bitOr}
-use lib.ListN.{length, getD}
-use Rattle·std.specs.shelf.Lists.{All}
-use Rattle·program.specs.Names.{Named, Missing, Number}
-use Rattle·lasso·specs.LassoTexts.{marked, joined}
-use Rattle·lasso·specs.LassoLines.{Ordered}
-use Rattle·lasso·specs.declared.scan.Marks.{Marks}
+use Rattle.std.specs.Prelude.{◌≡◌, ℕ, ◌+◌, ◌^◌, ◌<◌, ◌≤◌, true, false, ◌⊎◌, List, [], length, ◌≢◌, bit_or, slice_index_or}
+use Rattle.std.specs.List.{AllByRecursion as All}
+use Rattle.program.specs.Names.{Named, Missing, Number}
+use Rattle.lasso.specs.LassoTexts.{marked, joined}
+use Rattle.lasso.specs.LassoLines.{Ordered}
+use Rattle.lasso.specs.declared.scan.Marks.{Marks}
 
 -- a well-formed name is added: one that is not declared, or a proposition that comes after those before
-abbrev pub Adds-mark : List (List ℕ) → List ℕ → Marks → Marks → Type 0
-Adds-mark props name old new =
+abbrev pub AddsMark : List (List ℕ) → List ℕ → Marks → Marks → Type 0
+AddsMark props name old new =
     Named name
-    × ((Missing props name × (new ≡ record { mask = old .mask; declared = false; floor = old .floor }))
-    ⊎ ((p : ℕ) × Number props name p × (old .floor ≤ p) × (new ≡ record { mask = bitOr (old .mask) (2 ^ p); declared = old .declared; floor = p + 1 })))
+    × ((Missing props name × (new ≡ record { mask = old.mask; declared = false; floor = old.floor }))
+    ⊎ ((p : ℕ) × Number props name p × (old.floor ≤ p) × (new ≡ record { mask = bit_or old.mask (2 ^ p); declared = old.declared; floor = p + 1 })))
 
 -- a name that is malformed, or a proposition that does not come after those before
-abbrev pub Refuses-mark : List (List ℕ) → List ℕ → Marks → Type 0
-Refuses-mark props name old = (Named name → ⊥) ⊎ ((p : ℕ) × Number props name p × (p < old .floor))
+abbrev pub RefusesMark : List (List ℕ) → List ℕ → Marks → Type 0
+RefusesMark props name old = (Named name → ⊥) ⊎ ((p : ℕ) × Number props name p × (p < old.floor))
 
 -- these names in this order: declared, and then the mask stands for them, or not all declared
-pub record Marks-read (props names : List (List ℕ)) (m : Marks) : Type 0 where
+pub record MarksRead (props names : List (List ℕ)) (m : Marks) : Type 0 where
   pub named : All Named names
   pub ordered : Ordered props names
-  pub known : m .declared ≡ true → (marked props 0 (m .mask) ≡ names) × (m .mask < 2 ^ length props)
-  pub unknown : m .declared ≡ false → (i : ℕ) × (i < length names) × Missing props (getD names i [])
+  pub known : m.declared ≡ true → (marked props 0 m.mask ≡ names) × (m.mask < 2 ^ length props)
+  pub unknown : m.declared ≡ false → (i : ℕ) × (i < length names) × Missing props (slice_index_or names i [])
 
 -- the field is no names in order, joined by commas, and no dash
-abbrev pub No-marks : List (List ℕ) → List ℕ → Type 0
-No-marks props field = (names : List (List ℕ)) → All Named names → Ordered props names → field ≡ joined names → ⊥
+abbrev pub NoMarks : List (List ℕ) → List ℕ → Type 0
+NoMarks props field = (names : List (List ℕ)) → All Named names → Ordered props names → field ≢ joined names

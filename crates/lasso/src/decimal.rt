@@ -1,12 +1,10 @@
 // Numbers up to 4,095 in decimal, without leading zeros.
-ghost use mathlib.Core.Path.{_≡_};
-ghost use Prim.Native.Nat.{ℕ, _+_, _*_, _<_, _≤_};
-ghost use Rattle·std.specs.Options.{Cases};
-ghost use Rattle·lasso·specs.LassoTexts.{decimal};
+ghost use Rattle.std.specs.Prelude.{◌≡◌, ℕ, ◌+◌, ◌*◌, ◌<◌, ◌≤◌, MatchOption, ◌≢◌};
+ghost use Rattle.lasso.specs.LassoTexts.{decimal};
 
 // The number that the field spells.
 pub fn read_state(field: &[u8]) -> Option<u16>
-    ensures { λ r. ⌜ Cases r ((n : ℕ) → n ≤ 4095 → now (field .entry) ≡ decimal n → ⊥) (λ n. (n ≤ 4095) × (now (field .entry) ≡ decimal n)) ⌝ }
+    ensures { MatchOption result ((n : ℕ) → n ≤ 4095 → field.now ≢ decimal n) (λ n. (n ≤ 4095) × (field.now ≡ decimal n)) }
 {
     if field.len() == 0 || field.len() > 4 {
         return None;

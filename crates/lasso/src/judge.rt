@@ -1,24 +1,17 @@
 // Judging: the truth of each form at each step of a lasso, form by form.
-ghost use mathlib.Core.Logic.{_↔_};
-ghost use mathlib.Core.Path.{_≡_};
-ghost use Prim.Native.Nat.{ℕ, _+_, _*_, _<_, _≤_};
-ghost use lib.ListN.{length, getD};
-ghost use Rattle·std.specs.Orderings.{Decides};
-ghost use Rattle·program.specs.Masks.{Bit};
-ghost use Rattle·document.specs.Documents.{Document as Meaning, Well-formed, form-at, formula-at};
-ghost use Rattle·document.specs.Forms.{Earlier};
-ghost use Rattle·document.specs.Represents.{Represents};
-ghost use Rattle·lasso·specs.Judged.{holds-by, Plain, Judges, Judged};
-ghost use Rattle·lasso·specs.Lassos.{IsLasso};
-ghost use Rattle·lasso·specs.Readings.{Truth};
-ghost use Rattle·lasso·specs.Sessions.{reading, Meets-steps};
-ghost use Rattle·lasso·specs.TruthLaws.{Truth-decided, Truth-alike, Meets-alike};
+ghost use Rattle.std.specs.Prelude.{◌≡◌, ℕ, ◌+◌, ◌*◌, ◌<◌, ◌≤◌, ◌↔◌, length, Decides, slice_index};
+ghost use Rattle.program.specs.Masks.{Bit};
+ghost use Rattle.document.specs.Documents.{Document as Meaning, WellFormed, form_at, formula_at};
+ghost use Rattle.document.specs.Forms.{Earlier};
+ghost use Rattle.document.specs.Represents.{Represents};
+ghost use Rattle.lasso.specs.Judged.{holds_by, Plain, Judges, Judged};
+ghost use Rattle.lasso.specs.Lassos.{IsLasso};
+ghost use Rattle.lasso.specs.Readings.{Truth};
+ghost use Rattle.lasso.specs.Sessions.{reading, MeetsSteps};
+ghost use Rattle.lasso.specs.TruthLaws.{TruthDecided, TruthAlike, MeetsAlike};
+
 use crate::step::Step;
-use crate::until::Operands;
-use crate::until::after;
-use crate::until::bit;
-use crate::until::clear;
-use crate::until::fixed_point;
+use crate::until::{Operands, after, bit, clear, fixed_point};
 use document::declared::Declared;
 use document::document::Document;
 use document::form::Form;
@@ -26,8 +19,8 @@ use program::automaton::Automaton;
 
 // Whether a form that is no until is true at a step, given the truths of earlier forms there and at the step after.
 fn holds(e: usize, form: Form, step: Step, here: u64, next: u64) -> bool
-    requires { ⌜ e ≤ 64 ⌝ ∗ ⌜ Earlier 16 16 16 e form ⌝ }
-    ensures { λ r. ⌜ r ≡ holds-by form step here next ⌝ }
+    requires { (e ≤ 64) × (Earlier 16 16 16 e form) }
+    ensures { result ≡ holds_by form step here next }
 {
     match form {
         Form::True => true,
@@ -42,10 +35,10 @@ fn holds(e: usize, form: Form, step: Step, here: u64, next: u64) -> bool
 
 // Enters the truth of form e, which is no until, at each step.
 fn judge_plain(e: usize, form: Form, steps: &[Step], stem: usize, truths: &mut [u64])
-    requires form { ⌜ e < 64 ⌝ ∗ ⌜ Earlier 16 16 16 e form ⌝ ∗ ⌜ Plain form ⌝ }
-    requires stem { ⌜ stem < length (now steps) ⌝ }
-    requires truths { ⌜ length (now truths) ≡ length (now steps) ⌝ }
-    ensures { λ _. ⌜ ((d : Meaning) → Well-formed d → e < length (d .forms) → form ≡ form-at d e → Judged d (now (steps .entry)) stem e 0 (now (truths .entry)) → Judged d (now (steps .entry)) stem (e + 1) 0 (now (truths .exit))) ⌝ }
+    requires form { (e < 64) × ((Earlier 16 16 16 e form) × (Plain form)) }
+    requires stem { stem < length steps.now }
+    requires truths { length truths.old ≡ length steps.now }
+    ensures { (d : Meaning) → WellFormed d → e < length d.forms → form ≡ form_at d e → Judged d steps.now stem e 0 truths.old → Judged d steps.now stem (e + 1) 0 truths.new }
 {
     for i in 0..steps.len() {
         let next = truths[after(i, steps.len(), stem)];
@@ -57,10 +50,10 @@ fn judge_plain(e: usize, form: Form, steps: &[Step], stem: usize, truths: &mut [
 
 // Enters the truth of the until e: the rest is true from state 0.
 fn judge_until(e: usize, steps: &[Step], stem: usize, states: &[u64], truths: &mut [u64])
-    requires form { ⌜ e < 64 ⌝ }
-    requires states { ⌜ length (now states) ≡ length (now steps) ⌝ }
-    requires truths { ⌜ length (now truths) ≡ length (now steps) ⌝ }
-    ensures { λ _. ⌜ ((d : Meaning) → ((i : ℕ) → i < length (now (steps .entry)) → Bit (getD (now (states .entry)) i 0) 0 ↔ Truth (reading (now (steps .entry)) stem) i (formula-at d e)) → Judged d (now (steps .entry)) stem e 0 (now (truths .entry)) → Judged d (now (steps .entry)) stem (e + 1) 0 (now (truths .exit))) ⌝ }
+    requires form { e < 64 }
+    requires states { length states.now ≡ length steps.now }
+    requires truths { length truths.old ≡ length steps.now }
+    ensures { (d : Meaning) → ((i : ℕ) → i < length steps.now → Bit (slice_index states.now i) 0 ↔ Truth (reading steps.now stem) i (formula_at d e)) → Judged d steps.now stem e 0 truths.old → Judged d steps.now stem (e + 1) 0 truths.new }
 {
     for i in 0..steps.len() {
         if bit(states[i], 0) {
@@ -78,11 +71,11 @@ fn judge_form(
     truths: &mut [u64],
     states: &mut [u64],
 )
-    requires form { ⌜ e < 64 ⌝ ∗ ⌜ e < now declared .forms .count ⌝ }
-    requires stem { ⌜ stem < length (now steps) ⌝ }
-    requires truths { ⌜ length (now truths) ≡ length (now steps) ⌝ }
-    requires states { ⌜ length (now states) ≡ length (now steps) ⌝ }
-    ensures { λ _. ⌜ ((d : Meaning) → Judges (now (declared .entry)) (now (steps .entry)) d → Judged d (now (steps .entry)) stem e 0 (now (truths .entry)) → Judged d (now (steps .entry)) stem (e + 1) 0 (now (truths .exit))) ⌝ }
+    requires form { (e < 64) × (e < declared.now.forms.count) }
+    requires stem { stem < length steps.now }
+    requires truths { length truths.old ≡ length steps.now }
+    requires states { length states.old ≡ length steps.now }
+    ensures { (d : Meaning) → Judges declared.now steps.now d → Judged d steps.now stem e 0 truths.old → Judged d steps.now stem (e + 1) 0 truths.new }
 {
     let form = declared.form(e);
     if let Form::Until(f, p, g) = form {
@@ -100,10 +93,10 @@ fn judge_form(
 
 // Whether the lasso meets the goal. The work places are scratch: a word of truths and one of states for each step.
 pub fn judge(document: &Document, steps: &[Step], stem: usize, work: &mut [u64]) -> bool
-    requires lasso { ⌜ IsLasso (now document .declared .acts .count) (now document .declared .props .count) (now steps) stem ⌝ }
-    requires work { ⌜ 2 * length (now steps) ≤ length (now work) ⌝ }
-    ensures decides { λ r. ⌜ ((d : Meaning) → Represents (now (document .entry)) d → Well-formed d → Decides r (Meets-steps d (now (steps .entry)) stem)) ⌝ }
-    ensures laws { λ _. ⌜ Truth-decided ⌝ ∗ ⌜ Truth-alike ⌝ ∗ ⌜ Meets-alike ⌝ }
+    requires lasso { IsLasso document.now.declared.acts.count document.now.declared.props.count steps.now stem }
+    requires work { 2 * length steps.now ≤ length work.old }
+    ensures decides { (d : Meaning) → Represents document.now d → WellFormed d → Decides result (MeetsSteps d steps.now stem) }
+    ensures laws { (TruthDecided) × ((TruthAlike) × (MeetsAlike)) }
 {
     let n = steps.len();
     let (truths, rest) = work.split_at_mut(n);

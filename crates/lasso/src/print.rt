@@ -1,16 +1,12 @@
 // Writing a lasso's text: a line for each step.
-ghost use mathlib.Core.Path.{_≡_};
-ghost use mathlib.Core.Bool.{cond};
-ghost use mathlib.Core.List.{[], _∷_};
-ghost use Prim.Native.Nat.{_+_, _^_, _<_, _≤_};
-ghost use lib.Chars.{codes};
-ghost use lib.ListN.{length, set};
-ghost use Rattle·program.specs.Names.{spelled};
-ghost use Rattle·document.specs.Kept.{names-of};
-ghost use Rattle·lasso·specs.DeclaredNames.{acts-of, props-of};
-ghost use Rattle·lasso·specs.Lassos.{IsLasso};
-ghost use Rattle·lasso·specs.LassoTexts.{decimal, joined, marked, step-line, lasso-text};
-ghost use Rattle·lasso·specs.Written.{written, Printed};
+ghost use Rattle.std.specs.Prelude.{◌≡◌, ◌+◌, ◌^◌, ◌<◌, ◌≤◌, cond, [], ◌∷◌, length, if◌then◌else◌, codes, slice_set};
+ghost use Rattle.program.specs.Names.{spelled};
+ghost use Rattle.document.specs.Kept.{names_of};
+ghost use Rattle.lasso.specs.DeclaredNames.{acts_of, props_of};
+ghost use Rattle.lasso.specs.Lassos.{IsLasso};
+ghost use Rattle.lasso.specs.LassoTexts.{decimal, joined, marked, step_line, lasso_text};
+ghost use Rattle.lasso.specs.Written.{written, Printed};
+
 use crate::step::Step;
 use crate::until::bit;
 use document::declared::Declared;
@@ -20,9 +16,9 @@ use program::name::Name;
 
 // Writes a byte at a place, if the text has that place. Answers the next place.
 fn put(text: &mut [u8], at: usize, byte: u8) -> usize
-    requires { ⌜ at < 2 ^ 40 ⌝ }
-    ensures next { λ r. ⌜ r ≡ at + 1 ⌝ }
-    ensures text { λ _. ⌜ now (text .exit) ≡ set (now (text .entry)) at byte ⌝ }
+    requires { at < 2 ^ 40 }
+    ensures next { result ≡ at + 1 }
+    ensures text { text.new ≡ slice_set text.old at byte }
 {
     if at < text.len() {
         text[at] = byte;
@@ -31,9 +27,9 @@ fn put(text: &mut [u8], at: usize, byte: u8) -> usize
 }
 
 fn put_word(text: &mut [u8], at: usize, word: &[u8]) -> usize
-    requires { ⌜ at < 2 ^ 39 ⌝ ∗ ⌜ length (now word) ≤ 16 ⌝ }
-    ensures next { λ r. ⌜ r ≡ at + length (now (word .entry)) ⌝ }
-    ensures text { λ _. ⌜ now (text .exit) ≡ written (now (text .entry)) at (now (word .entry)) ⌝ }
+    requires { (at < 2 ^ 39) × (length word.now ≤ 16) }
+    ensures next { result ≡ at + length word.now }
+    ensures text { text.new ≡ written text.old at word.now }
 {
     let mut next = at;
     for k in 0..word.len() {
@@ -44,9 +40,9 @@ fn put_word(text: &mut [u8], at: usize, word: &[u8]) -> usize
 
 // `stem` or `loop`
 fn put_kind(text: &mut [u8], at: usize, in_stem: bool) -> usize
-    requires { ⌜ at < 2 ^ 39 ⌝ }
-    ensures next { λ r. ⌜ r ≡ at + 4 ⌝ }
-    ensures text { λ _. ⌜ now (text .exit) ≡ written (now (text .entry)) at (cond «in_stem» (codes "stem") (codes "loop")) ⌝ }
+    requires { at < 2 ^ 39 }
+    ensures next { result ≡ at + 4 }
+    ensures text { text.new ≡ written text.old at (cond in_stem (codes "stem") (codes "loop")) }
 {
     if in_stem {
         put_word(text, at, b"stem")
@@ -56,10 +52,10 @@ fn put_kind(text: &mut [u8], at: usize, in_stem: bool) -> usize
 }
 
 fn put_name(text: &mut [u8], at: usize, name: Name) -> usize
-    requires { ⌜ at < 2 ^ 39 ⌝ }
-    ensures next { λ r. ⌜ r ≡ at + length (spelled name) ⌝ }
-    ensures few { λ r. ⌜ r ≤ at + 16 ⌝ }
-    ensures text { λ _. ⌜ now (text .exit) ≡ written (now (text .entry)) at (spelled name) ⌝ }
+    requires { at < 2 ^ 39 }
+    ensures next { result ≡ at + length (spelled name) }
+    ensures few { result ≤ at + 16 }
+    ensures text { text.new ≡ written text.old at (spelled name) }
 {
     let mut next = at;
     for k in 0..name.len() {
@@ -70,9 +66,9 @@ fn put_name(text: &mut [u8], at: usize, name: Name) -> usize
 
 // A digit, if it is shown.
 fn put_digit(text: &mut [u8], at: usize, digit: u16, shown: bool) -> usize
-    requires { ⌜ at < 2 ^ 39 ⌝ ∗ ⌜ digit < 10 ⌝ }
-    ensures next { λ r. ⌜ r ≡ at + length (cond shown ((48 + digit) ∷ []) []) ⌝ }
-    ensures text { λ _. ⌜ now (text .exit) ≡ written (now (text .entry)) at (cond shown ((48 + digit) ∷ []) []) ⌝ }
+    requires { (at < 2 ^ 39) × (digit < 10) }
+    ensures next { result ≡ at + length (if shown then (48 + digit) ∷ [] else []) }
+    ensures text { text.new ≡ written text.old at (if shown then (48 + digit) ∷ [] else []) }
 {
     if shown {
         put(text, at, b'0' + digit as u8)
@@ -83,10 +79,10 @@ fn put_digit(text: &mut [u8], at: usize, digit: u16, shown: bool) -> usize
 
 // A state in decimal, without leading zeros.
 fn put_state(text: &mut [u8], at: usize, state: u16) -> usize
-    requires { ⌜ at < 2 ^ 38 ⌝ ∗ ⌜ state ≤ 4095 ⌝ }
-    ensures next { λ r. ⌜ r ≡ at + length (decimal state) ⌝ }
-    ensures few { λ r. ⌜ r ≤ at + 4 ⌝ }
-    ensures text { λ _. ⌜ now (text .exit) ≡ written (now (text .entry)) at (decimal state) ⌝ }
+    requires { (at < 2 ^ 38) × (state ≤ 4095) }
+    ensures next { result ≡ at + length (decimal state) }
+    ensures few { result ≤ at + 4 }
+    ensures text { text.new ≡ written text.old at (decimal state) }
 {
     let thousands = put_digit(text, at, state / 1000, state >= 1000);
     let hundreds = put_digit(text, thousands, state / 100 % 10, state >= 100);
@@ -96,10 +92,10 @@ fn put_state(text: &mut [u8], at: usize, state: u16) -> usize
 
 // A name, after a comma if it is not the first.
 fn put_mark(text: &mut [u8], at: usize, name: Name, first: bool) -> usize
-    requires { ⌜ at < 2 ^ 38 ⌝ }
-    ensures next { λ r. ⌜ r ≡ at + length (cond first (spelled name) (44 ∷ spelled name)) ⌝ }
-    ensures few { λ r. ⌜ r ≤ at + 17 ⌝ }
-    ensures text { λ _. ⌜ now (text .exit) ≡ written (now (text .entry)) at (cond first (spelled name) (44 ∷ spelled name)) ⌝ }
+    requires { at < 2 ^ 38 }
+    ensures next { result ≡ at + length (if first then spelled name else 44 ∷ spelled name) }
+    ensures few { result ≤ at + 17 }
+    ensures text { text.new ≡ written text.old at (if first then spelled name else 44 ∷ spelled name) }
 {
     if first {
         return put_name(text, at, name);
@@ -110,10 +106,10 @@ fn put_mark(text: &mut [u8], at: usize, name: Name, first: bool) -> usize
 
 // Marks in proposition order joined by commas, or `-`.
 fn put_marks(text: &mut [u8], at: usize, props: &Names, marks: u16) -> usize
-    requires { ⌜ at < 2 ^ 37 ⌝ ∗ ⌜ now props .count ≤ 16 ⌝ }
-    ensures next { λ r. ⌜ r ≡ at + length (joined (marked (names-of (now (props .entry))) 0 marks)) ⌝ }
-    ensures few { λ r. ⌜ r ≤ at + 273 ⌝ }
-    ensures text { λ _. ⌜ now (text .exit) ≡ written (now (text .entry)) at (joined (marked (names-of (now (props .entry))) 0 marks)) ⌝ }
+    requires { (at < 2 ^ 37) × (props.now.count ≤ 16) }
+    ensures next { result ≡ at + length (joined (marked (names_of props.now) 0 marks)) }
+    ensures few { result ≤ at + 273 }
+    ensures text { text.new ≡ written text.old at (joined (marked (names_of props.now) 0 marks)) }
 {
     let mut next = at;
     let mut first = true;
@@ -128,10 +124,10 @@ fn put_marks(text: &mut [u8], at: usize, props: &Names, marks: u16) -> usize
 
 // The line of one step.
 fn put_step(text: &mut [u8], at: usize, declared: &Declared, step: Step, in_stem: bool) -> usize
-    requires { ⌜ at < 2 ^ 36 ⌝ ∗ ⌜ step .state ≤ 4095 ⌝ ∗ ⌜ step .action < now declared .acts .count ⌝ }
-    ensures next { λ r. ⌜ r ≡ at + length (step-line (acts-of (now (declared .entry))) (props-of (now (declared .entry))) «in_stem» step) ⌝ }
-    ensures few { λ r. ⌜ r ≤ at + 301 ⌝ }
-    ensures text { λ _. ⌜ now (text .exit) ≡ written (now (text .entry)) at (step-line (acts-of (now (declared .entry))) (props-of (now (declared .entry))) «in_stem» step) ⌝ }
+    requires { (at < 2 ^ 36) × ((step.state ≤ 4095) × (step.action < declared.now.acts.count)) }
+    ensures next { result ≡ at + length (step_line (acts_of declared.now) (props_of declared.now) in_stem step) }
+    ensures few { result ≤ at + 301 }
+    ensures text { text.new ≡ written text.old at (step_line (acts_of declared.now) (props_of declared.now) in_stem step) }
 {
     let kind = put_kind(text, at, in_stem);
     let kind_end = put(text, kind, b'\t');
@@ -145,9 +141,9 @@ fn put_step(text: &mut [u8], at: usize, declared: &Declared, step: Step, in_stem
 
 // Writes as much of the lasso's text as there is room for. Answers the length of all of it.
 fn write(document: &Document, steps: &[Step], stem: usize, text: &mut [u8]) -> usize
-    requires { ⌜ IsLasso (now document .declared .acts .count) (now document .declared .props .count) (now steps) stem ⌝ }
-    ensures length { λ r. ⌜ r ≡ length (lasso-text (acts-of (now (document .entry) .declared)) (props-of (now (document .entry) .declared)) (now (steps .entry)) stem) ⌝ }
-    ensures text { λ _. ⌜ now (text .exit) ≡ written (now (text .entry)) 0 (lasso-text (acts-of (now (document .entry) .declared)) (props-of (now (document .entry) .declared)) (now (steps .entry)) stem) ⌝ }
+    requires { IsLasso document.now.declared.acts.count document.now.declared.props.count steps.now stem }
+    ensures length { result ≡ length (lasso_text (acts_of document.now.declared) (props_of document.now.declared) steps.now stem) }
+    ensures text { text.new ≡ written text.old 0 (lasso_text (acts_of document.now.declared) (props_of document.now.declared) steps.now stem) }
 {
     let declared = document.declared();
     let mut at = 0;
@@ -159,8 +155,8 @@ fn write(document: &Document, steps: &[Step], stem: usize, text: &mut [u8]) -> u
 
 // Writes the lasso's text into the first bytes, and answers its length; where it does not fit, nothing is written.
 pub fn print(document: &Document, steps: &[Step], stem: usize, text: &mut [u8]) -> Option<usize>
-    requires { ⌜ IsLasso (now document .declared .acts .count) (now document .declared .props .count) (now steps) stem ⌝ }
-    ensures { λ r. ⌜ Printed (lasso-text (acts-of (now (document .entry) .declared)) (props-of (now (document .entry) .declared)) (now (steps .entry)) stem) (now (text .entry)) (now (text .exit)) r ⌝ }
+    requires { IsLasso document.now.declared.acts.count document.now.declared.props.count steps.now stem }
+    ensures { Printed (lasso_text (acts_of document.now.declared) (props_of document.now.declared) steps.now stem) text.old text.new result }
 {
     let needed = write(document, steps, stem, &mut []);
     if needed > text.len() {

@@ -1,34 +1,25 @@
 // Reading a lasso's text: first every line is checked and counted, then the steps are written.
-ghost use mathlib.Core.Path.{_≡_};
-ghost use mathlib.Core.Bool.{true, false, cond, _&&_};
-ghost use mathlib.Core.List.{List};
-ghost use Prim.Native.Nat.{ℕ, _+_, _^_, _<_, _≤_};
-ghost use lib.Chars.{codes};
-ghost use lib.Dec.{eqb};
-ghost use lib.ListN.{length};
-ghost use Rattle·std.specs.Results.{Cases};
-ghost use Rattle·std.specs.Vec.{made, refused};
-ghost use Rattle·document.specs.Faults.{lineCode};
-ghost use Rattle·document.specs.Kept.{names-of};
-ghost use Rattle·lasso·specs.DeclaredNames.{acts-of, props-of};
-ghost use Rattle·document.specs.declared.fault.LineFault.the-variants.{Shape};
-ghost use Rattle·lasso·specs.LassoTexts.{joined};
-ghost use Rattle·lasso·specs.declared.scan.ScanFault.the-variants.{Line};
-ghost use Rattle·lasso·specs.MarkFields.{Adds-mark, Refuses-mark, Marks-read, No-marks};
-ghost use Rattle·document.specs.Texts.{pieces};
-ghost use Rattle·lasso·specs.LassoLines.{Faulty, Reads, All-read, First-fault};
-ghost use Rattle·lasso·specs.ScanLaws.{One-outcome, Scan-of-print, Print-of-scan, One-lasso, Loaded-apart};
-ghost use Rattle·lasso·specs.Scans.{Scanned-as};
-ghost use Rattle·lasso·specs.Tallies.{Surveyed, Refused-line, Filled-from};
+ghost use Rattle.std.specs.Prelude.{◌≡◌, ℕ, ◌+◌, ◌^◌, ◌<◌, ◌≤◌, true, false, cond, ◌&&◌, List, length, IfOk, if◌then◌else◌, codes, MatchResult, OnErr, ◌==◌, ◌≢◌};
+ghost use Rattle.document.specs.Faults.{line_fault_code};
+ghost use Rattle.document.specs.Kept.{names_of};
+ghost use Rattle.lasso.specs.DeclaredNames.{acts_of, props_of};
+ghost use Rattle.document.specs.declared.fault.LineFault.TheVariants.{Shape};
+ghost use Rattle.lasso.specs.LassoTexts.{joined};
+ghost use Rattle.lasso.specs.declared.scan.ScanFault.TheVariants.{Line};
+ghost use Rattle.lasso.specs.MarkFields.{AddsMark, RefusesMark, MarksRead, NoMarks};
+ghost use Rattle.document.specs.Texts.{pieces};
+ghost use Rattle.lasso.specs.LassoLines.{Faulty, Reads, AllRead, FirstFault};
+ghost use Rattle.lasso.specs.ScanLaws.{HasOneOutcome, ScanOfPrint, PrintOfScan, OneLasso, LoadedApart};
+ghost use Rattle.lasso.specs.Scans.{ScannedAs};
+ghost use Rattle.lasso.specs.Tallies.{Surveyed, RefusedLine, FilledFrom};
+
 use crate::decimal::read_state;
 use crate::step::Step;
 use crate::valid::MOST_STEPS;
 use document::declared::Declared;
 use document::document::Document;
-use document::fault::LineAt;
-use document::fault::LineFault;
-use document::fields::field;
-use document::fields::next_place;
+use document::fault::{LineAt, LineFault};
+use document::fields::{field, next_place};
 use document::lines::counted;
 use document::names::Names;
 use program::name::is_name;
@@ -43,8 +34,8 @@ pub enum ScanFault {
     Places,
 }
 
-pub impl From<LineAt> for ScanFault as ScanFaultFromLine {
-    ghost converts = { λ f r. r ≡ Line f };
+impl From<LineAt> for ScanFault {
+    ghost from_gives = { λ f r. r ≡ Line f };
 
     fn from(fault: LineAt) -> ScanFault {
         ScanFault::Line(fault)
@@ -70,8 +61,8 @@ struct Marks {
 impl Marks {
     // With one name more: declared propositions stand in their order.
     fn with(self, props: &Names, name: &[u8]) -> Result<Marks, LineFault>
-        requires { ⌜ now props .count ≤ 16 ⌝ }
-        ensures { λ r. ⌜ Cases r (λ m. Adds-mark (names-of (now (props .entry))) (now (name .entry)) self m) (λ f. (f ≡ Shape) × Refuses-mark (names-of (now (props .entry))) (now (name .entry)) self) ⌝ }
+        requires { props.now.count ≤ 16 }
+        ensures { MatchResult result (λ m. AddsMark (names_of props.now) name.now self m) (λ f. (f ≡ Shape) × RefusesMark (names_of props.now) name.now self) }
     {
         if !is_name(name) {
             return Err(LineFault::Shape);
@@ -96,8 +87,8 @@ impl Marks {
 
 // The marks of a field: names joined by commas, or a dash.
 fn read_marks(props: &Names, text: &[u8]) -> Result<Marks, LineFault>
-    requires { ⌜ now props .count ≤ 16 ⌝ }
-    ensures { λ r. ⌜ Cases r (λ m. (names : List (List ℕ)) × (now (text .entry) ≡ joined names) × Marks-read (names-of (now (props .entry))) names m) (λ f. (f ≡ Shape) × No-marks (names-of (now (props .entry))) (now (text .entry))) ⌝ }
+    requires { props.now.count ≤ 16 }
+    ensures { MatchResult result (λ m. (names : List (List ℕ)) × (text.now ≡ joined names) × MarksRead (names_of props.now) names m) (λ f. (f ≡ Shape) × NoMarks (names_of props.now) text.now) }
 {
     let mut marks = Marks {
         mask: 0,
@@ -124,7 +115,7 @@ struct StepLine {
 }
 
 fn read_kind(word: &[u8]) -> Result<bool, LineFault>
-    ensures { λ r. ⌜ Cases r (λ b. now (word .entry) ≡ cond b (codes "stem") (codes "loop")) (λ f. (f ≡ Shape) × (now (word .entry) ≡ codes "stem" → ⊥) × (now (word .entry) ≡ codes "loop" → ⊥)) ⌝ }
+    ensures { MatchResult result (λ b. word.now ≡ (if b then codes "stem" else codes "loop")) (λ f. (f ≡ Shape) × (word.now ≢ codes "stem") × (word.now ≢ codes "loop")) }
 {
     match word {
         b"stem" => Ok(true),
@@ -135,7 +126,7 @@ fn read_kind(word: &[u8]) -> Result<bool, LineFault>
 
 // The step of a line without its line feed.
 fn read_line(declared: &Declared, line: &[u8]) -> Result<StepLine, LineFault>
-    ensures { λ r. ⌜ Cases r (λ s. Reads (acts-of (now (declared .entry))) (props-of (now (declared .entry))) (now (line .entry)) s) (λ f. Faulty (acts-of (now (declared .entry))) (props-of (now (declared .entry))) (now (line .entry)) (lineCode f)) ⌝ }
+    ensures { MatchResult result (λ s. Reads (acts_of declared.now) (props_of declared.now) line.now s) (λ f. Faulty (acts_of declared.now) (props_of declared.now) line.now (line_fault_code f)) }
 {
     counted(line, 4)?;
     let in_stem = read_kind(field(line, 0))?;
@@ -171,8 +162,8 @@ struct Tally {
 
 impl Tally {
     fn with(self, in_stem: bool) -> Tally
-        requires { ⌜ self .steps < 2 ^ 63 ⌝ ∗ ⌜ self .stem ≤ self .steps ⌝ }
-        ensures { λ r. ⌜ r ≡ record { steps = self .steps + 1; stem = cond «in_stem» (self .stem + 1) (self .stem); ordered = cond «in_stem» (self .ordered && eqb (self .stem) (self .steps)) (self .ordered) } ⌝ }
+        requires { (self.steps < 2 ^ 63) × (self.stem ≤ self.steps) }
+        ensures { result ≡ record { steps = self.steps + 1; stem = cond in_stem (self.stem + 1) self.stem; ordered = cond in_stem (self.ordered && self.stem == self.steps) self.ordered } }
     {
         if in_stem {
             Tally {
@@ -197,7 +188,7 @@ fn numbered(
     whole: bool,
     number: usize,
 ) -> Result<StepLine, LineAt>
-    ensures { λ r. ⌜ Cases r (λ s. (whole ≡ true) × Reads (acts-of (now (declared .entry))) (props-of (now (declared .entry))) (now (line .entry)) s) (λ f. (f .line ≡ number) × Refused-line (acts-of (now (declared .entry))) (props-of (now (declared .entry))) (now (line .entry)) whole (lineCode (f .fault))) ⌝ }
+    ensures { MatchResult result (λ s. (whole ≡ true) × Reads (acts_of declared.now) (props_of declared.now) line.now s) (λ f. (f.line ≡ number) × RefusedLine (acts_of declared.now) (props_of declared.now) line.now whole (line_fault_code f.fault)) }
 {
     if !whole {
         return Err(LineAt {
@@ -216,7 +207,7 @@ fn numbered(
 
 // Checks every line.
 fn survey(declared: &Declared, text: &[u8]) -> Result<Tally, LineAt>
-    ensures { λ r. ⌜ Cases r (λ t. Surveyed (acts-of (now (declared .entry))) (props-of (now (declared .entry))) (now (text .entry)) t) (λ f. First-fault (acts-of (now (declared .entry))) (props-of (now (declared .entry))) 1 (pieces 10 (now (text .entry))) (lineCode (f .fault)) (f .line)) ⌝ }
+    ensures { MatchResult result (λ t. Surveyed (acts_of declared.now) (props_of declared.now) text.now t) (λ f. FirstFault (acts_of declared.now) (props_of declared.now) 1 (pieces 10 text.now) (line_fault_code f.fault) f.line) }
 {
     let mut seen = Tally {
         steps: 0,
@@ -235,7 +226,7 @@ fn survey(declared: &Declared, text: &[u8]) -> Result<Tally, LineAt>
 
 // Writes the steps of a text that was checked.
 fn fill(declared: &Declared, text: &[u8], steps: &mut [Step])
-    ensures { λ _. ⌜ ((ss : List StepLine) → All-read (acts-of (now (declared .entry))) (props-of (now (declared .entry))) (pieces 10 (now (text .entry))) ss → length ss ≤ length (now (steps .entry)) → Filled-from (acts-of (now (declared .entry))) (props-of (now (declared .entry))) (now (text .entry)) (now (steps .entry)) (now (steps .exit))) ⌝ }
+    ensures { (ss : List StepLine) → AllRead (acts_of declared.now) (props_of declared.now) (pieces 10 text.now) ss → length ss ≤ length steps.old → FilledFrom (acts_of declared.now) (props_of declared.now) text.now steps.old steps.new }
 {
     let mut at = 0;
     let mut number = 0;
@@ -251,10 +242,10 @@ fn fill(declared: &Declared, text: &[u8], steps: &mut [Step])
 
 // The lasso that the text spells, in the first steps.
 pub fn scan(document: &Document, text: &[u8], steps: &mut [Step]) -> Result<Scanned, ScanFault>
-    ensures untouched { λ r. ⌜ refused r (λ _. now (steps .exit) ≡ now (steps .entry)) ⌝ }
-    ensures outcome { λ r. ⌜ Scanned-as (acts-of (now (document .entry) .declared)) (props-of (now (document .entry) .declared)) (now (text .entry)) (now (steps .entry)) (now (steps .exit)) r ⌝ }
-    ensures laws { λ _. ⌜ One-outcome ⌝ ∗ ⌜ Scan-of-print ⌝ ∗ ⌜ Print-of-scan ⌝ ∗ ⌜ One-lasso ⌝ ∗ ⌜ Loaded-apart ⌝ }
-    ensures bounds { λ r. ⌜ made r (λ s. (s .stem < s .steps) × (s .steps ≤ 131072) × (s .steps ≤ length (now (steps .entry)))) ⌝ }
+    ensures untouched { OnErr result (steps.new ≡ steps.old) }
+    ensures outcome { ScannedAs (acts_of document.now.declared) (props_of document.now.declared) text.now steps.old steps.new result }
+    ensures laws { (HasOneOutcome) × ((ScanOfPrint) × ((PrintOfScan) × ((OneLasso) × (LoadedApart)))) }
+    ensures bounds { IfOk result (λ s. (s.stem < s.steps) × (s.steps ≤ 131072) × (s.steps ≤ length steps.old)) }
 {
     let declared = document.declared();
     let seen = survey(&declared, text)?;

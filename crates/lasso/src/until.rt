@@ -1,33 +1,31 @@
 // The states of an until's automaton from which the rest of it is true, at each step of a lasso: a least fixed point.
-ghost use mathlib.Core.Logic.{_↔_};
-ghost use mathlib.Core.Path.{_≡_};
-ghost use Prim.Native.Nat.{ℕ, _+_, _*_, _<_};
-ghost use lib.ListN.{length, getD};
-ghost use Rattle·program.specs.Masks.{Bit};
-ghost use Rattle·lasso·specs.Rounds.{next-place, Leads-by, Enters, Reaches, Rounded};
-ghost use Rattle·lasso·specs.Sessions.{bit-of};
+ghost use Rattle.std.specs.Prelude.{◌≡◌, ℕ, ◌+◌, ◌*◌, ◌<◌, ◌↔◌, length, slice_index};
+ghost use Rattle.program.specs.Masks.{Bit};
+ghost use Rattle.lasso.specs.Rounds.{next_place, LeadsBy, Enters, Reaches, Rounded};
+ghost use Rattle.lasso.specs.Sessions.{bit_of};
+
 use crate::step::Step;
 use program::automaton::Automaton;
 
 // Whether bit e of a word is set.
 pub fn bit(word: u64, e: usize) -> bool
-    requires { ⌜ e < 64 ⌝ }
-    ensures { λ r. ⌜ r ≡ bit-of word e ⌝ }
+    requires { e < 64 }
+    ensures { result ≡ bit_of word e }
 {
     (word >> e) % 2 == 1
 }
 
 // The step after step i.
 pub fn after(i: usize, len: usize, stem: usize) -> usize
-    requires { ⌜ i < len ⌝ ∗ ⌜ stem < len ⌝ }
-    ensures is { λ r. ⌜ r ≡ next-place len stem i ⌝ }
-    ensures inside { λ r. ⌜ r < len ⌝ }
+    requires { (i < len) × (stem < len) }
+    ensures is { result ≡ next_place len stem i }
+    ensures inside { result < len }
 {
     if i + 1 < len { i + 1 } else { stem }
 }
 
 pub fn clear(words: &mut [u64])
-    ensures { λ _. ⌜ ((k : ℕ) → k < length (now (words .entry)) → getD (now (words .exit)) k 0 ≡ 0) ⌝ }
+    ensures { (k : ℕ) → k < length words.old → slice_index words.new k ≡ 0 }
 {
     for w in words.iter_mut() {
         *w = 0;
@@ -36,7 +34,7 @@ pub fn clear(words: &mut [u64])
 
 // The states that lead by the action to a state of `next`.
 fn leading(automaton: &Automaton, action: u8, next: u64) -> u16
-    ensures { λ r. ⌜ ((q : ℕ) → Bit r q ↔ ((n : ℕ) × Leads-by (now (automaton .entry)) q action n × Bit next n)) ⌝ }
+    ensures { (q : ℕ) → Bit result q ↔ ((n : ℕ) × LeadsBy automaton.now q action n × Bit next n) }
 {
     let mut states = 0;
     for q in 0..automaton.states() {
@@ -49,7 +47,7 @@ fn leading(automaton: &Automaton, action: u8, next: u64) -> u16
 
 // The states that a step enters: final ones where g is true, and, where f is true, those that lead by the action to a state of the step after.
 fn entered(automaton: &Automaton, action: u8, f: bool, g: bool, next: u64) -> u16
-    ensures { λ r. ⌜ ((q : ℕ) → Bit r q ↔ Enters (now (automaton .entry)) action f g next q) ⌝ }
+    ensures { (q : ℕ) → Bit result q ↔ Enters automaton.now action f g next q }
 {
     let ending = if g { automaton.finals() } else { 0 };
     let going = if f {
@@ -76,11 +74,11 @@ fn round(
     truths: &[u64],
     states: &mut [u64],
 )
-    requires operands { ⌜ operands .f < 64 ⌝ ∗ ⌜ operands .g < 64 ⌝ }
-    requires stem { ⌜ stem < length (now steps) ⌝ }
-    requires truths { ⌜ length (now truths) ≡ length (now steps) ⌝ }
-    requires states { ⌜ length (now states) ≡ length (now steps) ⌝ }
-    ensures { λ _. ⌜ Rounded (now (automaton .entry)) (now (steps .entry)) stem (now (truths .entry)) (operands .f) (operands .g) (now (states .entry)) 0 (now (states .exit)) ⌝ }
+    requires operands { (operands.f < 64) × (operands.g < 64) }
+    requires stem { stem < length steps.now }
+    requires truths { length truths.now ≡ length steps.now }
+    requires states { length states.old ≡ length steps.now }
+    ensures { Rounded automaton.now steps.now stem truths.now operands.f operands.g states.old 0 states.new }
 {
     for i in (0..steps.len()).rev() {
         let f = bit(truths[i], operands.f);
@@ -99,11 +97,11 @@ pub fn fixed_point(
     truths: &[u64],
     states: &mut [u64],
 )
-    requires operands { ⌜ operands .f < 64 ⌝ ∗ ⌜ operands .g < 64 ⌝ }
-    requires stem { ⌜ stem < length (now steps) ⌝ }
-    requires truths { ⌜ length (now truths) ≡ length (now steps) ⌝ }
-    requires states { ⌜ length (now states) ≡ length (now steps) ⌝ }
-    ensures { λ _. ⌜ ((i q : ℕ) → i < length (now (steps .entry)) → Bit (getD (now (states .exit)) i 0) q ↔ Reaches (now (automaton .entry)) (now (steps .entry)) stem (now (truths .entry)) (operands .f) (operands .g) i q) ⌝ }
+    requires operands { (operands.f < 64) × (operands.g < 64) }
+    requires stem { stem < length steps.now }
+    requires truths { length truths.now ≡ length steps.now }
+    requires states { length states.old ≡ length steps.now }
+    ensures { (i q : ℕ) → i < length steps.now → Bit (slice_index states.new i) q ↔ Reaches automaton.now steps.now stem truths.now operands.f operands.g i q }
 {
     clear(states);
     loop {

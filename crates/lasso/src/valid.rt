@@ -1,9 +1,7 @@
 // Which lists of steps are lassos of a document.
-ghost use mathlib.Core.Path.{_≡_};
-ghost use Prim.Native.Nat.{ℕ, _+_, _<_, _≤_};
-ghost use lib.ListN.{length};
-ghost use Rattle·std.specs.Orderings.{Decides};
-ghost use Rattle·lasso·specs.Lassos.{fits, stepAt, IsLasso};
+ghost use Rattle.std.specs.Prelude.{◌≡◌, ℕ, ◌+◌, ◌<◌, ◌≤◌, length, Decides};
+ghost use Rattle.lasso.specs.Lassos.{fits, step_in, IsLasso};
+
 use crate::step::Step;
 use document::document::Document;
 
@@ -12,15 +10,15 @@ pub const MOST_STEPS: usize = 131072;
 
 // Whether a step has a declared action, a state up to 4,095, and declared propositions alone.
 pub fn step_fits(acts: usize, props: usize, step: Step) -> bool
-    requires { ⌜ props ≤ 16 ⌝ }
-    ensures { λ r. ⌜ r ≡ fits acts props step ⌝ }
+    requires { props ≤ 16 }
+    ensures { result ≡ fits acts props step }
 {
     (step.action as usize) < acts && step.state <= 4095 && (step.marks as u32) >> props == 0
 }
 
 // Whether the steps, with this stem, are a lasso of the document that calls take.
 pub fn is_lasso(document: &Document, steps: &[Step], stem: usize) -> bool
-    ensures { λ r. ⌜ Decides r (IsLasso (now (document .entry) .declared .acts .count) (now (document .entry) .declared .props .count) (now (steps .entry)) stem) ⌝ }
+    ensures { Decides result (IsLasso document.now.declared.acts.count document.now.declared.props.count steps.now stem) }
 {
     if stem >= steps.len() || steps.len() > MOST_STEPS {
         return false;

@@ -1,13 +1,9 @@
 -- A factor is an atom and its stars.
-use mathlib.Core.Path.{_≡_, refl, sym, ap, _∙_}
-use mathlib.Core.List.{List, [], _∷_, _++_}
-use Prim.Native.Nat.{ℕ, zero, suc}
-use native.Mathlib.Numerals.{add-one}
-use lib.ListN.{replicate}
-use Rattle·std.proofs.shelf.Lists.{append-assoc, append-nil, replicate-more}
-use Rattle·program·specs.Reading.{Atom, word, inner}
-use Rattle·program·specs.Text.{Tree, leaf, repeat, factor, Spells, named, group, star as starred}
-use Rattle·program·specs.Words.{Program, star}
+use Rattle.std.proofs.Common.{◌≡◌, ℕ, zero, suc, List, [], ◌∷◌, ◌++◌, replicate, sym, refl, ap, ◌∙◌, add-one}
+use Rattle.std.proofs.lemmas.List.{append_assoc, append-nil, replicate_more}
+use Rattle.program.specs.Reading.{Atom, word, inner}
+use Rattle.program.specs.Text.{Tree, leaf, repeat, factor, Spells, named, group, star as starred}
+use Rattle.program.specs.Words.{Program, star}
 
 -- a part with so many stars
 abbrev pub trees : ℕ → Tree → Tree
@@ -32,11 +28,11 @@ unstarred {d} {bs} {t} (group h r) = record { base = bs; count = 0; tree = t; at
 unstarred (starred r) =
     let u = unstarred r in
     record {
-      base = u .base;
-      count = suc (u .count);
-      tree = u .tree;
-      atom = u .atom;
-      bytes = ap (λ v. v ++ 42 ∷ []) (u .bytes) ∙ append-assoc (u .base) (replicate (u .count) 42) (42 ∷ []) ∙ ap (λ v. u .base ++ v)
-          (replicate-more (u .count) 42 ∙ ap (λ v. replicate v 42) (add-one (u .count)));
-      is = ap repeat (u .is);
+      base = u.base;
+      count = suc u.count;
+      tree = u.tree;
+      atom = u.atom;
+      bytes = ap (λ v. v ++ 42 ∷ []) u.bytes ∙ append_assoc u.base (replicate u.count 42) (42 ∷ []) ∙ ap (λ v. u.base ++ v)
+          (replicate_more u.count 42 ∙ ap (λ v. replicate v 42) (add-one u.count));
+      is = ap repeat u.is;
     }

@@ -1,29 +1,20 @@
 -- What the checker went through, some program begins with.
-use mathlib.Core.Path.{_≡_, refl, sym, ap, _∙_, subst}
-use mathlib.Core.Bool.{Bool, true, false, cond}
-use mathlib.Core.List.{List, [], _∷_, _++_}
-use mathlib.Core.Logic.{_⊎_, inl, inr, ⊎-elim}
-use Prim.Native.Nat.{ℕ, zero, suc, _+_, _-_, _<_}
-use native.Mathlib.Numerals.{add-one}
-use native.Mathlib.Omega.{arith}
-use lib.Dec.{eqb, leb}
-use lib.ListN.{length, getD}
-use Rattle·std.specs.declared.option.Option.the-variants.{Some, None}
-use Rattle·std.proofs.shelf.Lists.{append-assoc, append-nil, length-push, getD-append-left, getD-push}
-use Rattle·std.proofs.shelf.Tests.{leb-false, eqb-true, eqb-false, cases-order}
-use Rattle·std.proofs.shelf.Ways.{tells}
-use Rattle·program·specs.Names.{letter, naming, Named}
-use Rattle·program·specs.Steps.{stand, stepped, lengthened}
-use Rattle·program·specs.Text.{Tree, Kind, factor, sum, Spells, named, group, star, lone, semi, single, plus, Well-formed, Begun}
-use Rattle·program·specs.declared.check.Prefix.{Prefix}
-use Rattle·program·proofs.Goes.{Goes}
+use Rattle.std.proofs.Common.{◌≡◌, ℕ, zero, suc, ◌+◌, ◌-◌, ◌<◌, Bool, true, false, cond, eqb, leb, ◌⊎◌, List, [], ◌∷◌, ◌++◌, length, get_or, Some, None, sym, refl, ap, ◌∙◌, subst, inl, inr, ⊎_elim, add-one, arith}
+use Rattle.std.proofs.lemmas.List.{append_assoc, append-nil, length_push, get_or_append_left, get_or_push}
+use Rattle.std.proofs.lemmas.Bool.{leb-false, eqb-true, eqb-false, cases_order}
+use Rattle.std.proofs.lemmas.Bool.Decides.{nat_tests}
+use Rattle.program.specs.Names.{letter, naming, Named}
+use Rattle.program.specs.Steps.{stand, stepped, lengthened}
+use Rattle.program.specs.Text.{Tree, Kind, factor, sum, Spells, named, group, star, lone, semi, single, plus, WellFormed, Begun}
+use Rattle.program.specs.declared.check.Prefix.{Prefix}
+use Rattle.program.proofs.Goes.{Goes}
 
 abbrev Part : Kind → ℕ → List ℕ → Type 0
 Part k d bs = (t : Tree) × Spells k d bs t
 
 -- with as many closing parentheses as are open, the bytes are a program
 abbrev pub Closes : ℕ → List ℕ → Type 0
-Closes zero x = Well-formed x
+Closes zero x = WellFormed x
 Closes (suc d) x = (v : List ℕ) × (f : List ℕ) × (x ++ 41 ∷ [] ≡ v ++ f) × ((s : List ℕ) → Part sum d s → Closes d (v ++ s)) × Part factor d f
 
 -- a sum is due
@@ -37,73 +28,73 @@ Done d u = (v : List ℕ) × (f : List ℕ) × (u ≡ v ++ f) × Due d v × Part
 -- what is known of the bytes where the checker stands
 abbrev pub Known : List ℕ → Bool → ℕ → ℕ → Type 0
 Known u true d n = Due d u
-Known u false d n = (w : Done d u) × (0 < n → Named (w .1) × (length (w .1) ≡ n))
+Known u false d n = (w : Done d u) × (0 < n → Named w.1 × (length w.1 ≡ n))
 
-as-sum : (d : ℕ) (f : List ℕ) → Part factor d f → Part sum d f
-as-sum d f p = (p .0, single (lone (p .1)))
+as_sum : (d : ℕ) (f : List ℕ) → Part factor d f → Part sum d f
+as_sum d f p = (p.0, single (lone p.1))
 
-then-sum : {d : ℕ} {f : List ℕ} {s : List ℕ} {t r : Tree} → Spells factor d f t → Spells sum d s r → Part sum d (f ++ 59 ∷ s)
-then-sum h (single q) = (_, single (semi h q))
-then-sum {d} {f} h (plus {ls = ls} {rs = rs} q r) = subst (Part sum d) (append-assoc f (59 ∷ ls) (43 ∷ rs)) (_, plus (semi h q) r)
+then_sum : {d : ℕ} {f : List ℕ} {s : List ℕ} {t r : Tree} → Spells factor d f t → Spells sum d s r → Part sum d (f ++ 59 ∷ s)
+then_sum h (single q) = (_, single (semi h q))
+then_sum {d} {f} h (plus {ls = ls} {rs = rs} q r) = subst (Part sum d) (append_assoc f (59 ∷ ls) (43 ∷ rs)) (_, plus (semi h q) r)
 
 -- u is v and f, and then c and s follow
 joined : (u v f s : List ℕ) (c : ℕ) → u ≡ v ++ f → v ++ (f ++ c ∷ s) ≡ (u ++ c ∷ []) ++ s
-joined u v f s c e = rw e (simp append-assoc)
+joined u v f s c e = rw e (simp append_assoc)
 
-after-plus : (d : ℕ) (u : List ℕ) → Done d u → Due d (u ++ 43 ∷ [])
-after-plus d u w s p =
-    let f = w .4 in
-    subst (Closes d) (joined u (w .0) (w .1) s 43 (w .2)) (w .3 (w .1 ++ 43 ∷ s) (_, plus (lone (f .1)) (p .1)))
+after_plus : (d : ℕ) (u : List ℕ) → Done d u → Due d (u ++ 43 ∷ [])
+after_plus d u w s p =
+    let f = w.4 in
+    subst (Closes d) (joined u w.0 w.1 s 43 w.2) (w.3 (w.1 ++ 43 ∷ s) (_, plus (lone f.1) p.1))
 
-after-semi : (d : ℕ) (u : List ℕ) → Done d u → Due d (u ++ 59 ∷ [])
-after-semi d u w s p =
-    subst (Closes d) (joined u (w .0) (w .1) s 59 (w .2)) (w .3 (w .1 ++ 59 ∷ s) (then-sum (w .4 .1) (p .1)))
+after_semi : (d : ℕ) (u : List ℕ) → Done d u → Due d (u ++ 59 ∷ [])
+after_semi d u w s p =
+    subst (Closes d) (joined u w.0 w.1 s 59 w.2) (w.3 (w.1 ++ 59 ∷ s) (then_sum w.4.1 p.1))
 
-after-open : (d : ℕ) (v : List ℕ) → d < 8 → Due d v → Due (suc d) (v ++ 40 ∷ [])
-after-open d v h due s p =
-    (v, 40 ∷ (s ++ 41 ∷ []), simp append-assoc, due, (_, group h (p .1)))
+after_open : (d : ℕ) (v : List ℕ) → d < 8 → Due d v → Due (suc d) (v ++ 40 ∷ [])
+after_open d v h due s p =
+    (v, 40 ∷ (s ++ 41 ∷ []), simp append_assoc, due, (_, group h p.1))
 
-after-shut : (d : ℕ) (u : List ℕ) → Done (suc d) u → Done d (u ++ 41 ∷ [])
-after-shut d u w = subst (λ x. Done d (x ++ 41 ∷ [])) (sym (w .2)) (w .3 (w .1) (as-sum (suc d) (w .1) (w .4)))
+after_shut : (d : ℕ) (u : List ℕ) → Done (suc d) u → Done d (u ++ 41 ∷ [])
+after_shut d u w = subst (λ x. Done d (x ++ 41 ∷ [])) (sym w.2) (w.3 w.1 (as_sum (suc d) w.1 w.4))
 
-after-star : (d : ℕ) (u : List ℕ) → Done d u → Done d (u ++ 42 ∷ [])
-after-star d u w =
-    (w .0, w .1 ++ 42 ∷ [], rw (w .2) (append-assoc (w .0) (w .1) (42 ∷ [])), w .3, (_, star (w .4 .1)))
+after_star : (d : ℕ) (u : List ℕ) → Done d u → Done d (u ++ 42 ∷ [])
+after_star d u w =
+    (w.0, w.1 ++ 42 ∷ [], rw w.2 (append_assoc w.0 w.1 (42 ∷ [])), w.3, (_, star w.4.1))
 
-one-letter : (c : ℕ) → letter c ≡ true → Named (c ∷ [])
-one-letter c h =
-    let n : naming c ≡ true = grind (arith, tells) in
+one_letter : (c : ℕ) → letter c ≡ true → Named (c ∷ [])
+one_letter c h =
+    let n : naming c ≡ true = grind (arith, nat_tests) in
     record {
       some = omega arith;
       short = omega arith;
       begins = h;
-      rest = λ k l. let z : k ≡ 0 = omega arith in subst (λ v. naming (getD (c ∷ []) v 0) ≡ true) (sym z) n;
+      rest = λ k l. let z : k ≡ 0 = omega arith in subst (λ v. naming (get_or (c ∷ []) v 0) ≡ true) (sym z) n;
     }
 
-longer-name : (f : List ℕ) (c : ℕ) → naming c ≡ true → length f < 16 → Named f → Named (f ++ c ∷ [])
-longer-name f c h l n =
-    let long = length-push f c in
+longer_name : (f : List ℕ) (c : ℕ) → naming c ≡ true → length f < 16 → Named f → Named (f ++ c ∷ [])
+longer_name f c h l n =
+    let long = length_push f c in
     record {
       some = omega arith;
       short = omega arith;
-      begins = ap letter (getD-append-left f (c ∷ []) 0 0 (n .some)) ∙ n .begins;
+      begins = ap letter (get_or_append_left f (c ∷ []) 0 0 n.some) ∙ n.begins;
       rest = λ k less.
-          ⊎-elim
-          (λ e. ap naming (getD-push f c 0 k (sym e)) ∙ h)
-          (⊎-elim (λ low. ap naming (getD-append-left f (c ∷ []) 0 k low) ∙ n .rest k low) (λ high. absurd (omega arith)))
-          (cases-order k (length f));
+          ⊎_elim
+          (λ e. ap naming (get_or_push f c 0 k (sym e)) ∙ h)
+          (⊎_elim (λ low. ap naming (get_or_append_left f (c ∷ []) 0 k low) ∙ n.rest k low) (λ high. absurd (omega arith)))
+          (cases_order k (length f));
     }
 
-after-letter : (d c : ℕ) (u : List ℕ) → letter c ≡ true → Due d u → Known (u ++ c ∷ []) false d 1
-after-letter d c u h due = let n = one-letter c h in ((u, c ∷ [], refl, due, (_, named n)), λ _. (n, refl))
+after_letter : (d c : ℕ) (u : List ℕ) → letter c ≡ true → Due d u → Known (u ++ c ∷ []) false d 1
+after_letter d c u h due = let n = one_letter c h in ((u, c ∷ [], refl, due, (_, named n)), λ _. (n, refl))
 
-after-naming : (d n c : ℕ) (u : List ℕ) → naming c ≡ true → 0 < n → n < 16 → Known u false d n → Known (u ++ c ∷ []) false d (n + 1)
-after-naming d n c u h some few k =
-    let w = k .0 in
-    let f = w .1 in
-    let t = k .1 some in
-    let m = longer-name f c h (omega (arith, t .1)) (t .0) in
-    ((w .0, f ++ c ∷ [], rw (w .2) (append-assoc (w .0) f (c ∷ [])), w .3, (_, named m)), λ _. (m, length-push f c ∙ ap (λ v. v + 1) (t .1)))
+after_naming : (d n c : ℕ) (u : List ℕ) → naming c ≡ true → 0 < n → n < 16 → Known u false d n → Known (u ++ c ∷ []) false d (n + 1)
+after_naming d n c u h some few k =
+    let w = k.0 in
+    let f = w.1 in
+    let t = k.1 some in
+    let m = longer_name f c h (omega (arith, t.1)) t.0 in
+    ((w.0, f ++ c ∷ [], rw w.2 (append_assoc w.0 f (c ∷ [])), w.3, (_, named m)), λ _. (m, length_push f c ∙ ap (λ v. v + 1) t.1))
 
 -- a name's length is not known outside a name
 outside : (d : ℕ) (u : List ℕ) → Done d u → Known u false d 0
@@ -113,97 +104,97 @@ pick : {A : Type 0} (b : Bool) {x y z : A} → cond b x y ≡ z → ((b ≡ true
 pick true h = inl (refl, h)
 pick false h = inr (refl, h)
 
-abbrev Known-at : List ℕ → Prefix → Type 0
-Known-at u m = Known u (m .due) (m .depth) (m .name)
+abbrev KnownAt : List ℕ → Prefix → Type 0
+KnownAt u m = Known u m.due m.depth m.name
 
 -- the step led to s
-to : (u : List ℕ) (s m : Prefix) → Some s ≡ Some m → Known-at u s → Known-at u m
-to u s m e k = let f : s ≡ m = cc in subst (Known-at u) f k
+to : (u : List ℕ) (s m : Prefix) → Some s ≡ Some m → KnownAt u s → KnownAt u m
+to u s m e k = let f : s ≡ m = cc in subst (KnownAt u) f k
 
 never : {A : Type 0} {m : Prefix} → None ≡ Some m → A
-never e = let z : _≡_ {A = ℕ} 0 1 = cc in absurd (omega arith)
+never e = let z : ◌≡◌ {A = ℕ} 0 1 = cc in absurd (omega arith)
 
 -- one step where a factor is due, and one elsewhere
-known-due : (u : List ℕ) (d n c : ℕ) (m : Prefix) → Known u true d n → stepped (stand true d n) c ≡ Some m → Known-at (u ++ c ∷ []) m
-known-due u d n c m k h =
-    ⊎-elim (λ x. never (x .1))
-    (λ x. ⊎-elim (λ x. never (x .1))
-    (λ x. ⊎-elim (λ x. never (x .1))
-    (λ x. ⊎-elim
-    (λ x. let e = eqb-true c 40 (x .0) in ⊎-elim (λ y. never (y .1))
-    (λ y. to (u ++ c ∷ []) (stand true (d + 1) 0) m (y .1) (rw (e, add-one) (after-open d u (leb-false 8 d (y .0)) k))) (pick (leb 8 d) (x .1)))
-    (λ x. ⊎-elim (λ x. never (x .1))
-    (λ x. ⊎-elim (λ x. to (u ++ c ∷ []) (stand false d 1) m (x .1) (after-letter d c u (x .0) k))
-    (λ x. ⊎-elim (λ x. never (x .1)) (λ x. never (x .1)) (pick (naming c) (x .1)))
-    (pick (letter c) (x .1)))
-    (pick (eqb c 41) (x .1)))
-    (pick (eqb c 40) (x .1)))
-    (pick (eqb c 42) (x .1)))
-    (pick (eqb c 59) (x .1)))
+known_due : (u : List ℕ) (d n c : ℕ) (m : Prefix) → Known u true d n → stepped (stand true d n) c ≡ Some m → KnownAt (u ++ c ∷ []) m
+known_due u d n c m k h =
+    ⊎_elim (λ x. never x.1)
+    (λ x. ⊎_elim (λ x. never x.1)
+    (λ x. ⊎_elim (λ x. never x.1)
+    (λ x. ⊎_elim
+    (λ x. let e = eqb-true c 40 x.0 in ⊎_elim (λ y. never y.1)
+    (λ y. to (u ++ c ∷ []) (stand true (d + 1) 0) m y.1 (rw (e, add-one) (after_open d u (leb-false 8 d y.0) k))) (pick (leb 8 d) x.1))
+    (λ x. ⊎_elim (λ x. never x.1)
+    (λ x. ⊎_elim (λ x. to (u ++ c ∷ []) (stand false d 1) m x.1 (after_letter d c u x.0 k))
+    (λ x. ⊎_elim (λ x. never x.1) (λ x. never x.1) (pick (naming c) x.1))
+    (pick (letter c) x.1))
+    (pick (eqb c 41) x.1))
+    (pick (eqb c 40) x.1))
+    (pick (eqb c 42) x.1))
+    (pick (eqb c 59) x.1))
     (pick (eqb c 43) h)
 
-known-done : (u : List ℕ) (d n c : ℕ) (m : Prefix) → Known u false d n → stepped (stand false d n) c ≡ Some m → Known-at (u ++ c ∷ []) m
-known-done u d n c m k h =
-    ⊎-elim (λ x. let e = eqb-true c 43 (x .0) in to (u ++ c ∷ []) (stand true d 0) m (x .1) (rw e (after-plus d u (k .0))))
-    (λ x. ⊎-elim (λ x. let e = eqb-true c 59 (x .0) in to (u ++ c ∷ []) (stand true d 0) m (x .1) (rw e (after-semi d u (k .0))))
-    (λ x. ⊎-elim (λ x. let e = eqb-true c 42 (x .0) in to (u ++ c ∷ []) (stand false d 0) m (x .1) (rw e (outside d (u ++ 42 ∷ []) (after-star d u (k .0)))))
-    (λ x. ⊎-elim (λ x. never (x .1))
-    (λ x. ⊎-elim
-    (λ x. ⊎-elim (λ y. never (y .1)) (λ y. closing d (eqb-false d 0 (y .0)) (eqb-true c 41 (x .0)) (k .0) (y .1)) (pick (eqb d 0) (x .1)))
-    (λ x. ⊎-elim (λ x. name-on (named-byte c (x .0)) (x .1))
-    (λ x. ⊎-elim (λ x. name-on (x .0) (x .1)) (λ x. never (x .1)) (pick (naming c) (x .1)))
-    (pick (letter c) (x .1)))
-    (pick (eqb c 41) (x .1)))
-    (pick (eqb c 40) (x .1)))
-    (pick (eqb c 42) (x .1)))
-    (pick (eqb c 59) (x .1)))
+known_done : (u : List ℕ) (d n c : ℕ) (m : Prefix) → Known u false d n → stepped (stand false d n) c ≡ Some m → KnownAt (u ++ c ∷ []) m
+known_done u d n c m k h =
+    ⊎_elim (λ x. let e = eqb-true c 43 x.0 in to (u ++ c ∷ []) (stand true d 0) m x.1 (rw e (after_plus d u k.0)))
+    (λ x. ⊎_elim (λ x. let e = eqb-true c 59 x.0 in to (u ++ c ∷ []) (stand true d 0) m x.1 (rw e (after_semi d u k.0)))
+    (λ x. ⊎_elim (λ x. let e = eqb-true c 42 x.0 in to (u ++ c ∷ []) (stand false d 0) m x.1 (rw e (outside d (u ++ 42 ∷ []) (after_star d u k.0))))
+    (λ x. ⊎_elim (λ x. never x.1)
+    (λ x. ⊎_elim
+    (λ x. ⊎_elim (λ y. never y.1) (λ y. closing d (eqb-false d 0 y.0) (eqb-true c 41 x.0) k.0 y.1) (pick (eqb d 0) x.1))
+    (λ x. ⊎_elim (λ x. name_on (named_byte c x.0) x.1)
+    (λ x. ⊎_elim (λ x. name_on x.0 x.1) (λ x. never x.1) (pick (naming c) x.1))
+    (pick (letter c) x.1))
+    (pick (eqb c 41) x.1))
+    (pick (eqb c 40) x.1))
+    (pick (eqb c 42) x.1))
+    (pick (eqb c 59) x.1))
     (pick (eqb c 43) h)
   where
-    named-byte : (c : ℕ) → letter c ≡ true → naming c ≡ true
-    named-byte c h = grind (arith, tells)
+    named_byte : (c : ℕ) → letter c ≡ true → naming c ≡ true
+    named_byte c h = grind (arith, nat_tests)
 
-    closing : (d : ℕ) → (d ≡ 0 → ⊥) → c ≡ 41 → Done d u → Some (stand false (d - 1) 0) ≡ Some m → Known-at (u ++ c ∷ []) m
+    closing : (d : ℕ) → (d ≡ 0 → ⊥) → c ≡ 41 → Done d u → Some (stand false (d - 1) 0) ≡ Some m → KnownAt (u ++ c ∷ []) m
     closing zero some e w y = absurd (some refl)
     closing (suc d) some e w y =
         let f : suc d - 1 ≡ d = omega arith in
-        to (u ++ c ∷ []) (stand false (suc d - 1) 0) m y (rw (e, f) (outside d (u ++ 41 ∷ []) (after-shut d u w)))
+        to (u ++ c ∷ []) (stand false (suc d - 1) 0) m y (rw (e, f) (outside d (u ++ 41 ∷ []) (after_shut d u w)))
 
-    name-on : naming c ≡ true → lengthened (stand false d n) ≡ Some m → Known-at (u ++ c ∷ []) m
-    name-on h x =
-        ⊎-elim (λ y. never (y .1))
-        (λ y. ⊎-elim (λ z. never (z .1))
-        (λ z. let e = eqb-false n 0 (y .0) in to (u ++ c ∷ []) (stand false d (n + 1)) m (z .1) (after-naming d n c u h (omega arith) (leb-false 16 n (z .0)) k))
-        (pick (leb 16 n) (y .1)))
+    name_on : naming c ≡ true → lengthened (stand false d n) ≡ Some m → KnownAt (u ++ c ∷ []) m
+    name_on h x =
+        ⊎_elim (λ y. never y.1)
+        (λ y. ⊎_elim (λ z. never z.1)
+        (λ z. let e = eqb-false n 0 y.0 in to (u ++ c ∷ []) (stand false d (n + 1)) m z.1 (after_naming d n c u h (omega arith) (leb-false 16 n z.0) k))
+        (pick (leb 16 n) y.1))
         (pick (eqb n 0) x)
 
-known-step : (b : Bool) (u : List ℕ) (d n c : ℕ) (m : Prefix) → Known u b d n → stepped (stand b d n) c ≡ Some m → Known-at (u ++ c ∷ []) m
-known-step true = known-due
-known-step false = known-done
+known_step : (b : Bool) (u : List ℕ) (d n c : ℕ) (m : Prefix) → Known u b d n → stepped (stand b d n) c ≡ Some m → KnownAt (u ++ c ∷ []) m
+known_step true = known_due
+known_step false = known_done
 
-pub known : (bs u : List ℕ) (s m : Prefix) → Known-at u s → Goes s bs m → Known-at (u ++ bs) m
-known [] u s m k e = rw append-nil (subst (Known-at u) e k)
+pub known : (bs u : List ℕ) (s m : Prefix) → KnownAt u s → Goes s bs m → KnownAt (u ++ bs) m
+known [] u s m k e = rw append-nil (subst (KnownAt u) e k)
 known (c ∷ bs) u s m k g =
-    subst (λ v. Known-at v m) (append-assoc u (c ∷ []) bs)
-    (known bs (u ++ c ∷ []) (g .0) m (known-step (s .due) u (s .depth) (s .name) c (g .0) k (g .1)) (g .2))
+    subst (λ v. KnownAt v m) (append_assoc u (c ∷ []) bs)
+    (known bs (u ++ c ∷ []) g.0 m (known_step s.due u s.depth s.name c g.0 k g.1) g.2)
 
 -- before the first byte a sum is due
-pub at-start : Known [] true 0 0
-at-start s p = p
+pub at_start : Known [] true 0 0
+at_start s p = p
 
-done-ends : (d : ℕ) (u : List ℕ) → Done d u → Closes d u
-done-ends d u w = subst (Closes d) (sym (w .2)) (w .3 (w .1) (as-sum d (w .1) (w .4)))
+done_ends : (d : ℕ) (u : List ℕ) → Done d u → Closes d u
+done_ends d u w = subst (Closes d) (sym w.2) (w.3 w.1 (as_sum d w.1 w.4))
 
-pub whole : (u : List ℕ) (n : ℕ) → Known u false 0 n → Well-formed u
-whole u n k = done-ends 0 u (k .0)
+pub whole : (u : List ℕ) (n : ℕ) → Known u false 0 n → WellFormed u
+whole u n k = done_ends 0 u k.0
 
 completes : (d : ℕ) (u : List ℕ) → Done d u → Begun u
-completes zero u w = ([], rw append-nil (done-ends 0 u w))
+completes zero u w = ([], rw append-nil (done_ends 0 u w))
 completes (suc d) u w =
-    let t = completes d (u ++ 41 ∷ []) (done-ends (suc d) u w) in
-    (41 ∷ t .0, rw append-assoc at (t .1))
+    let t = completes d (u ++ 41 ∷ []) (done_ends (suc d) u w) in
+    (41 ∷ t.0, rw append_assoc at t.1)
 
 pub begun : (b : Bool) (u : List ℕ) (d n : ℕ) → Known u b d n → Begun u
 begun true u d n k =
-    let t = completes d (u ++ 97 ∷ []) (after-letter d 97 u refl k .0) in
-    (97 ∷ t .0, rw append-assoc at (t .1))
-begun false u d n k = completes d u (k .0)
+    let t = completes d (u ++ 97 ∷ []) (after_letter d 97 u refl k).0 in
+    (97 ∷ t.0, rw append_assoc at t.1)
+begun false u d n k = completes d u k.0

@@ -1,11 +1,6 @@
 -- The automaton of a program: state 0, and a state for each of its action names, counted from 1.
-use mathlib.Core.Path.{_≡_}
-use mathlib.Core.List.{List, [], _∷_, _++_}
-use mathlib.Core.Logic.{_⊎_}
-use mathlib.Core.Bool.{Bool, true, false, cond}
-use Prim.Native.Nat.{ℕ, zero, suc, _+_, _-_}
-use lib.ListN.{length, getD}
-use Rattle·program·specs.Words.{Program, Program.act, Program.either, Program.seq, Program.star}
+use Rattle.std.specs.Prelude.{◌≡◌, ℕ, zero, suc, ◌+◌, ◌-◌, Bool, true, false, cond, ◌⊎◌, List, [], ◌∷◌, ◌++◌, length, slice_index}
+use Rattle.program.specs.Words.{Program, Program.act, Program.either, Program.seq, Program.star}
 
 -- the action names of a program, from left to right
 abbrev pub names : Program → List ℕ
@@ -44,8 +39,8 @@ Follow (star p) i m n = Follow p i m n ⊎ (Last p i m × First p i n)
 
 -- the action c leads from state q to state n
 abbrev pub Leads : Program → ℕ → ℕ → ℕ → Type 0
-Leads p zero c n = First p 1 n × (getD (names p) (n - 1) 0 ≡ c)
-Leads p (suc q) c n = Follow p 1 (suc q) n × (getD (names p) (n - 1) 0 ≡ c)
+Leads p zero c n = First p 1 n × (slice_index (names p) (n - 1) ≡ c)
+Leads p (suc q) c n = Follow p 1 (suc q) n × (slice_index (names p) (n - 1) ≡ c)
 
 -- the states where a word may end
 abbrev pub Final : Program → ℕ → Type 0

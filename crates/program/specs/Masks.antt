@@ -1,9 +1,5 @@
 -- Masks: numbers whose bits stand for names or states.
-use mathlib.Core.Path.{_≡_}
-use mathlib.Core.List.{List, []}
-use mathlib.Core.Logic.{_↔_}
-use Prim.Native.Nat.{ℕ, _/_, _%_, _^_, _<_}
-use lib.ListN.{getD}
+use Rattle.std.specs.Prelude.{◌≡◌, ℕ, ◌/◌, ◌%◌, ◌^◌, ◌<◌, ◌↔◌, List, [], slice_index, slice_index_or}
 
 -- bit n of the mask is set
 abbrev pub Bit : ℕ → ℕ → Type 0
@@ -15,4 +11,4 @@ Marks m P = (n : ℕ) → n < 16 → Bit m n ↔ P n
 
 -- the mask in row i and column k of a table
 abbrev pub cell : List (List ℕ) → ℕ → ℕ → ℕ
-cell next i k = getD (getD next i []) k 0
+cell next i k = slice_index (slice_index_or next i []) k

@@ -1,41 +1,34 @@
 -- What the readers of a text's parts give. Internal: what they are for is said in Programs.
-use mathlib.Core.Path.{_≡_}
-use mathlib.Core.Bool.{false}
-use mathlib.Core.List.{List, [], _∷_, _++_}
-use mathlib.Core.Logic.{_⊎_}
-use Prim.Native.Nat.{ℕ, suc, _+_, _%_, _<_, _≤_}
-use lib.ListN.{length, getD, drop}
-use Rattle·std.specs.Results.{Cases}
-use Rattle·std.specs.declared.result.Result.{Result}
-use Rattle·program·specs.Automata.{names, nullable, First, Last, Follow}
-use Rattle·program·specs.Masks.{Bit, Marks}
-use Rattle·program·specs.Names.{naming, Named}
-use Rattle·program·specs.Programs.{Means}
-use Rattle·program·specs.Text.{Tree, leaf, Kind, factor, sequence, sum, Spells}
-use Rattle·program·specs.Words.{Program}
-use Rattle·program·specs.declared.fault.ProgramFault.{ProgramFault}
-use Rattle·program·specs.declared.fault.ProgramFault.the-variants.{Undeclared}
-use Rattle·program·specs.declared.row.Draft.{Draft}
-use Rattle·program·specs.declared.row.Part.{Part}
+use Rattle.std.specs.Prelude.{◌≡◌, ℕ, suc, ◌+◌, ◌%◌, ◌<◌, ◌≤◌, false, ◌⊎◌, List, [], ◌∷◌, ◌++◌, length, drop, Result, MatchResult, ◌≢◌, slice_index}
+use Rattle.program.specs.Automata.{names, nullable, First, Last, Follow}
+use Rattle.program.specs.Masks.{Bit, Marks}
+use Rattle.program.specs.Names.{naming, Named}
+use Rattle.program.specs.Programs.{Means}
+use Rattle.program.specs.Text.{Tree, leaf, Kind, factor, sequence, sum, Spells}
+use Rattle.program.specs.Words.{Program}
+use Rattle.program.specs.declared.fault.ProgramFault.{ProgramFault}
+use Rattle.program.specs.declared.fault.ProgramFault.TheVariants.{Undeclared}
+use Rattle.program.specs.declared.row.Draft.{Draft}
+use Rattle.program.specs.declared.row.Part.{Part}
 
 -- the masks of a program, whose names are counted from i on
-pub record Part-of (p : Program) (i : ℕ) (part : Part) : Type 0 where
-  pub empty : part .nullable ≡ nullable p
-  pub begins : Marks (part .first) (First p i)
-  pub ends : Marks (part .last) (Last p i)
+pub record PartOf (p : Program) (i : ℕ) (part : Part) : Type 0 where
+  pub empty : part.nullable ≡ nullable p
+  pub begins : Marks part.first (First p i)
+  pub ends : Marks part.last (Last p i)
 
 -- the names of a program, as bytes, and what follows what, were entered into the draft
 pub record Entered (p : Program) (old new : Draft) : Type 0 where
-  pub count : new .names ≡ old .names + length (names p)
-  pub kept : (k : ℕ) → k ≤ old .names → getD (new .actions) k 0 ≡ getD (old .actions) k 0
-  pub acts : (k : ℕ) → k < length (names p) → old .names + k < 15 → getD (new .actions) (old .names + k + 1) 0 ≡ getD (names p) k 0 % 256
-  pub goes-on : (m : ℕ) → m < 16 → Marks (getD (new .follow) m 0) (λ n. Bit (getD (old .follow) m 0) n ⊎ Follow p (old .names + 1) m n)
+  pub count : new.names ≡ old.names + length (names p)
+  pub kept : (k : ℕ) → k ≤ old.names → slice_index new.actions k ≡ slice_index old.actions k
+  pub acts : (k : ℕ) → k < length (names p) → old.names + k < 15 → slice_index new.actions (old.names + k + 1) ≡ slice_index (names p) k % 256
+  pub goes_on : (m : ℕ) → m < 16 → Marks (slice_index new.follow m) (λ n. Bit (slice_index old.follow m) n ⊎ Follow p (old.names + 1) m n)
 
 -- each name of one mask may be followed by each of another
 pub record Joined (from to : ℕ) (old new : Draft) : Type 0 where
-  pub count : new .names ≡ old .names
-  pub acts : new .actions ≡ old .actions
-  pub goes-on : (m : ℕ) → m < 16 → Marks (getD (new .follow) m 0) (λ n. Bit (getD (old .follow) m 0) n ⊎ ((1 ≤ m) × Bit from m × Bit to n))
+  pub count : new.names ≡ old.names
+  pub acts : new.actions ≡ old.actions
+  pub goes_on : (m : ℕ) → m < 16 → Marks (slice_index new.follow m) (λ n. Bit (slice_index old.follow m) n ⊎ ((1 ≤ m) × Bit from m × Bit to n))
 
 -- a name, or a sum in parentheses
 pub data Atom : ℕ → List ℕ → Tree → Type 0 where
@@ -57,11 +50,11 @@ Ends sum [] = Unit {0}
 Ends sum (c ∷ bs) = c ≡ 41
 
 -- the program that the tree means was read up to a place
-pub record Read-as (acts : List (List ℕ)) (t : Tree) (to : ℕ) (old new : Draft) (part : Part) : Type 0 where
+pub record ReadAs (acts : List (List ℕ)) (t : Tree) (to : ℕ) (old new : Draft) (part : Part) : Type 0 where
   pub program : Program
   pub means : Means acts t program
-  pub reaches : part .end ≡ to
-  pub masks : Part-of program (old .names + 1) part
+  pub reaches : part.end ≡ to
+  pub masks : PartOf program (old.names + 1) part
   pub entered : Entered program old new
 
 -- a name of the tree is not declared
@@ -75,23 +68,23 @@ Reads S E text at acts old new r =
     → S bs t
     → drop at text ≡ bs ++ rest
     → E rest
-    → Cases r (Read-as acts t (at + length bs) old new) (Unread acts t)
+    → MatchResult r (ReadAs acts t (at + length bs) old new) (Unread acts t)
 
 -- where a name or a sum in parentheses stands
-abbrev pub Reads-atom : List ℕ → ℕ → List (List ℕ) → Draft → Draft → Result Part ProgramFault → Type 0
-Reads-atom = Reads (λ bs t. (d : ℕ) × Atom d bs t) Unnamed
+abbrev pub ReadsAtom : List ℕ → ℕ → List (List ℕ) → Draft → Draft → Result Part ProgramFault → Type 0
+ReadsAtom = Reads (λ bs t. (d : ℕ) × Atom d bs t) Unnamed
 
 -- where a factor, a sequence or a sum stands
-abbrev pub Reads-part : Kind → List ℕ → ℕ → List (List ℕ) → Draft → Draft → Result Part ProgramFault → Type 0
-Reads-part k = Reads (λ bs t. (d : ℕ) × Spells k d bs t) (Ends k)
+abbrev pub ReadsPart : Kind → List ℕ → ℕ → List (List ℕ) → Draft → Draft → Result Part ProgramFault → Type 0
+ReadsPart k = Reads (λ bs t. (d : ℕ) × Spells k d bs t) (Ends k)
 
 -- where a name stands
-abbrev pub Reads-word : List ℕ → ℕ → List (List ℕ) → Draft → Draft → Result Part ProgramFault → Type 0
-Reads-word = Reads (λ bs t. Named bs × (t ≡ leaf bs)) Unnamed
+abbrev pub ReadsWord : List ℕ → ℕ → List (List ℕ) → Draft → Draft → Result Part ProgramFault → Type 0
+ReadsWord = Reads (λ bs t. Named bs × (t ≡ leaf bs)) Unnamed
 
 -- the sum that was read, one byte further where its closing parenthesis stands
-abbrev pub Closed-off : List ℕ → Part → Result Part ProgramFault → Type 0
-Closed-off text l r =
-    Cases r
-    (λ p. (p .«end» ≡ l .«end» + 1) × (p .«end» ≤ length text) × (p .nullable ≡ l .nullable) × (p .first ≡ l .first) × (p .last ≡ l .last))
-    (λ f. l .«end» < length text → getD text (l .«end») 0 ≡ 41 → ⊥)
+abbrev pub ClosedOff : List ℕ → Part → Result Part ProgramFault → Type 0
+ClosedOff text l r =
+    MatchResult r
+    (λ p. (p.«end» ≡ l.«end» + 1) × (p.«end» ≤ length text) × (p.nullable ≡ l.nullable) × (p.first ≡ l.first) × (p.last ≡ l.last))
+    (λ f. l.«end» < length text → slice_index text l.«end» ≢ 41)

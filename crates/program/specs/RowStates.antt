@@ -1,9 +1,7 @@
 -- The states of a row's automaton.
-use mathlib.Core.Bool.{cond}
-use Prim.Native.Nat.{ℕ, _+_}
-use lib.Dec.{ltb}
-use Rattle·program·specs.declared.row.Row.{Row}
+use Rattle.std.specs.Prelude.{ℕ, ◌+◌, cond, nat_lt}
+use Rattle.program.specs.declared.row.Row.{Row}
 
 -- one for each name after state 0, at most 16
-abbrev pub statesOf : Row → ℕ
-statesOf row = cond (ltb (row .names) 16) (row .names + 1) 16
+abbrev pub states_in : Row → ℕ
+states_in row = cond (nat_lt row.names 16) (row.names + 1) 16

@@ -1,16 +1,12 @@
 -- The automaton of a program as a table of masks, over actions below 16.
-use mathlib.Core.Path.{_≡_}
-use mathlib.Core.List.{List, [], _∷_}
-use mathlib.Core.Logic.{_↔_}
-use Prim.Native.Nat.{ℕ, _+_, _<_}
-use lib.ListN.{length}
-use Rattle·std.specs.shelf.Lists.{All}
-use Rattle·program·specs.Words.{Program, Words}
-use Rattle·program·specs.Automata.{names, Leads, Final}
-use Rattle·program·specs.Masks.{Bit, cell}
+use Rattle.std.specs.Prelude.{◌≡◌, ℕ, ◌+◌, ◌<◌, ◌↔◌, List, [], ◌∷◌, length}
+use Rattle.std.specs.List.{AllByRecursion as All}
+use Rattle.program.specs.Words.{Program, Words}
+use Rattle.program.specs.Automata.{names, Leads, Final}
+use Rattle.program.specs.Masks.{Bit, cell}
 
 -- the table has the steps and the final states of the program's automaton
-pub record Automaton-of (p : Program) (states : ℕ) (next : List (List ℕ)) (finals : ℕ) : Type 0 where
+pub record AutomatonOf (p : Program) (states : ℕ) (next : List (List ℕ)) (finals : ℕ) : Type 0 where
   pub count : states ≡ length (names p) + 1
   pub leads : (q c n : ℕ) → c < 16 → Bit (cell next q c) n ↔ Leads p q c n
   pub ends : (q : ℕ) → Bit finals q ↔ Final p q
@@ -21,5 +17,5 @@ Accepted next finals q [] = Bit finals q
 Accepted next finals q (c ∷ w) = (n : ℕ) × Bit (cell next q c) n × Accepted next finals n w
 
 -- from state 0 it accepts exactly the program's words
-abbrev pub Accepts-words-of : Program → List (List ℕ) → ℕ → Type 0
-Accepts-words-of p next finals = (w : List ℕ) → All (λ c. c < 16) w → Accepted next finals 0 w ↔ Words p w
+abbrev pub AcceptsWordsOf : Program → List (List ℕ) → ℕ → Type 0
+AcceptsWordsOf p next finals = (w : List ℕ) → All (λ c. c < 16) w → Accepted next finals 0 w ↔ Words p w

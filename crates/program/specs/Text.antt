@@ -1,8 +1,6 @@
 -- The text of programs. Bytes: 40 and 41 are the parentheses, 42 the star, 43 the plus, 59 the semicolon.
-use mathlib.Core.List.{List, [], _∷_, _++_}
-use Prim.Native.Nat.{ℕ, suc, _+_, _<_, _≤_}
-use lib.ListN.{length, take}
-use Rattle·program·specs.Names.{Named}
+use Rattle.std.specs.Prelude.{ℕ, suc, ◌+◌, ◌<◌, ◌≤◌, List, [], ◌∷◌, ◌++◌, length, take}
+use Rattle.program.specs.Names.{Named}
 
 -- a program over names: a name, one of two, one after another, and any number of times
 pub data Tree : Type 0 where
@@ -28,17 +26,17 @@ pub data Spells : Kind → ℕ → List ℕ → Tree → Type 0 where
   plus : {d : ℕ} {ls rs : List ℕ} {s t : Tree} → Spells sequence d ls s → Spells sum d rs t → Spells sum d (ls ++ 43 ∷ rs) (choice s t)
 
 -- the whole text is a program
-abbrev pub Well-formed : List ℕ → Type 0
-Well-formed text = (t : Tree) × Spells sum 0 text t
+abbrev pub WellFormed : List ℕ → Type 0
+WellFormed text = (t : Tree) × Spells sum 0 text t
 
 -- some program begins with these bytes
 abbrev pub Begun : List ℕ → Type 0
-Begun bs = (more : List ℕ) × Well-formed (bs ++ more)
+Begun bs = (more : List ℕ) × WellFormed (bs ++ more)
 
 -- the fault of a text that is no program: the least column, counted from 1, such that no program begins with the bytes
 -- up to it, or the length plus 1 where some program begins with the whole text
-pub record Fault-at (text : List ℕ) (column : ℕ) : Type 0 where
+pub record FaultAt (text : List ℕ) (column : ℕ) : Type 0 where
   pub within : (1 ≤ column) × (column ≤ length text + 1)
   pub before : (k : ℕ) → k < column → Begun (take k text)
   pub here : column ≤ length text → Begun (take column text) → ⊥
-  pub unwell : Well-formed text → ⊥
+  pub unwell : WellFormed text → ⊥

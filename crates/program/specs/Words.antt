@@ -1,8 +1,5 @@
 -- Programs of actions, and their words. An action is a number.
-use mathlib.Core.Path.{_≡_}
-use mathlib.Core.List.{List, [], _∷_, _++_}
-use mathlib.Core.Logic.{_⊎_}
-use Prim.Native.Nat.{ℕ, zero, suc}
+use Rattle.std.specs.Prelude.{◌≡◌, ℕ, zero, suc, ◌⊎◌, List, [], ◌∷◌, ◌++◌}
 
 -- an action, one of two, one after another, and any number of times
 pub data Program : Type 0 where

@@ -1,16 +1,11 @@
 // The automaton of a program: states 0 to its number of names, at most 16, and a mask of target states for each state and action.
-ghost use mathlib.Core.Path.{_≡_};
-ghost use Prim.Native.Nat.{ℕ, _-_, _/_, _%_, _^_, _<_, _≤_};
-ghost use lib.Bits.{bitAnd};
-ghost use lib.Dec.{eqb, ltb};
-ghost use mathlib.Core.Bool.{_&&_};
-ghost use lib.ListN.{getD};
-ghost use mathlib.Core.Logic.{_↔_};
-ghost use Rattle·program·specs.Laws.{Accepts-its-words, Accepts-by-parts, Nullable-is-empty};
-ghost use Rattle·program·specs.Masks.{Bit, cell};
-ghost use Rattle·program·specs.Rows.{Row-of};
-ghost use Rattle·program·specs.Tables.{Automaton-of, Accepts-words-of};
-ghost use Rattle·program·specs.Words.{Program};
+ghost use Rattle.std.specs.Prelude.{◌≡◌, ℕ, ◌-◌, ◌/◌, ◌%◌, ◌^◌, ◌<◌, ◌≤◌, ◌&&◌, ◌↔◌, ◌==◌, bit_and, nat_lt, slice_index};
+ghost use Rattle.program.specs.Laws.{AcceptsItsWords, AcceptsByParts, NullableIsEmpty};
+ghost use Rattle.program.specs.Masks.{Bit, cell};
+ghost use Rattle.program.specs.Rows.{RowOf};
+ghost use Rattle.program.specs.Tables.{AutomatonOf, AcceptsWordsOf};
+ghost use Rattle.program.specs.Words.{Program};
+
 use crate::row::Row;
 
 #[derive(Clone, Copy)]
@@ -25,8 +20,8 @@ pub struct Automaton {
 
 // The mask of the first `states` states.
 fn all_of(states: usize) -> u16
-    requires { ⌜ states ≤ 16 ⌝ }
-    ensures { λ r. ⌜ r ≡ 2 ^ states - 1 ⌝ }
+    requires { states ≤ 16 }
+    ensures { result ≡ 2 ^ states - 1 }
 {
     if states == 16 {
         0xffff
@@ -37,7 +32,7 @@ fn all_of(states: usize) -> u16
 
 // The names of each action.
 fn named(row: &Row) -> [u16; 16]
-    ensures { λ r. ⌜ ((a n : ℕ) → a < 16 → n < 16 → Bit (getD r a 0) n ↔ ((1 ≤ n) × (getD (now (row .entry) .actions) n 0 ≡ a))) ⌝ }
+    ensures { (a n : ℕ) → a < 16 → n < 16 → Bit (slice_index result a) n ↔ ((1 ≤ n) × (slice_index row.now.actions n ≡ a)) }
 {
     let mut named = [0; 16];
     for i in 1..16 {
@@ -51,7 +46,7 @@ fn named(row: &Row) -> [u16; 16]
 
 // Where each action leads, from a state that the names of `follow` follow.
 fn targets_by(follow: u16, named: &[u16; 16], all: u16) -> [u16; 16]
-    ensures { λ r. ⌜ ((k : ℕ) → k < 16 → getD r k 0 ≡ bitAnd (bitAnd follow (getD (now (named .entry)) k 0)) all) ⌝ }
+    ensures { (k : ℕ) → k < 16 → slice_index result k ≡ bit_and (bit_and follow (slice_index named.now k)) all }
 {
     let mut row = [0; 16];
     for k in 0..16 {
@@ -63,9 +58,9 @@ fn targets_by(follow: u16, named: &[u16; 16], all: u16) -> [u16; 16]
 impl Automaton {
     // The automaton of the program that the row is of.
     pub fn new(row: &Row) -> Automaton
-        ensures made { λ r. ⌜ ((p : Program) → Row-of p (now (row .entry)) → Automaton-of p (r .states) (r .next) (r .finals)) ⌝ }
-        ensures words { λ r. ⌜ ((p : Program) → Row-of p (now (row .entry)) → Accepts-words-of p (r .next) (r .finals)) ⌝ }
-        ensures laws { λ r. ⌜ Accepts-its-words ⌝ ∗ ⌜ Accepts-by-parts ⌝ ∗ ⌜ Nullable-is-empty ⌝ }
+        ensures made { (p : Program) → RowOf p row.now → AutomatonOf p result.states result.next result.finals }
+        ensures words { (p : Program) → RowOf p row.now → AcceptsWordsOf p result.next result.finals }
+        ensures laws { (AcceptsItsWords) × ((AcceptsByParts) × (NullableIsEmpty)) }
     {
         let states = row.states();
         let all = all_of(states);
@@ -84,17 +79,17 @@ impl Automaton {
     }
 
     pub fn states(&self) -> usize
-        ensures is { λ r. ⌜ r ≡ now (self .entry) .states ⌝ }
-        ensures few { λ r. ⌜ r ≤ 16 ⌝ }
+        ensures is { result ≡ self.now.states }
+        ensures few { result ≤ 16 }
     {
         self.states
     }
 
     // The states that an action leads to.
     pub fn targets(&self, state: usize, action: usize) -> u16
-        ensures is { λ r. ⌜ (state < 16 → action < 16 → r ≡ cell (now (self .entry) .next) state action) ⌝ }
-        ensures none { λ r. ⌜ (16 ≤ state → r ≡ 0) ⌝ ∗ ⌜ (16 ≤ action → r ≡ 0) ⌝ }
-        ensures within { λ r. ⌜ r < 2 ^ now (self .entry) .states ⌝ }
+        ensures is { state < 16 → action < 16 → result ≡ cell self.now.next state action }
+        ensures none { ((16 ≤ state → result ≡ 0)) × ((16 ≤ action → result ≡ 0)) }
+        ensures within { result < 2 ^ self.now.states }
     {
         if state < 16 && action < 16 {
             self.next[state][action]
@@ -105,15 +100,15 @@ impl Automaton {
 
     // The final states.
     pub fn finals(&self) -> u16
-        ensures is { λ r. ⌜ r ≡ now (self .entry) .finals ⌝ }
-        ensures within { λ r. ⌜ r < 2 ^ now (self .entry) .states ⌝ }
+        ensures is { result ≡ self.now.finals }
+        ensures within { result < 2 ^ self.now.states }
     {
         self.finals
     }
 
     // Whether a state is final.
     pub fn is_final(&self, state: usize) -> bool
-        ensures { λ r. ⌜ r ≡ (ltb state 16 && eqb (now (self .entry) .finals / 2 ^ state % 2) 1) ⌝ }
+        ensures { result ≡ (nat_lt state 16 && self.now.finals / 2 ^ state % 2 == 1) }
     {
         state < 16 && (self.finals >> state) % 2 == 1
     }

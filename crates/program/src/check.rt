@@ -1,11 +1,9 @@
 // The checker of prefixes: it reads a text byte by byte and stops where no program can go on so.
-ghost use mathlib.Core.Path.{_≡_};
-ghost use lib.Dec.{eqb};
-ghost use mathlib.Core.Bool.{true, not, _&&_};
-ghost use Rattle·std.specs.Results.{Cases};
-ghost use Rattle·program·specs.Faults.{Malformed-by};
-ghost use Rattle·program·specs.Steps.{stand, operated, starred, opened, shut, lengthened, lettered, stepped};
-ghost use Rattle·program·specs.Text.{Well-formed};
+ghost use Rattle.std.specs.Prelude.{◌≡◌, true, not, ◌&&◌, MatchResult, ◌==◌};
+ghost use Rattle.program.specs.Faults.{MalformedBy};
+ghost use Rattle.program.specs.Steps.{stand, operated, starred, opened, shut, lengthened, lettered, stepped};
+ghost use Rattle.program.specs.Text.{WellFormed};
+
 use crate::fault::ProgramFault;
 
 // Where the reader stands: whether a factor is due, how many parentheses are open, and how long the name is that is being read (0 outside a name).
@@ -19,7 +17,7 @@ pub struct Prefix {
 impl Prefix {
     // Before the first byte.
     pub fn start() -> Prefix
-        ensures { λ r. ⌜ r ≡ stand true 0 0 ⌝ }
+        ensures { result ≡ stand true 0 0 }
     {
         Prefix {
             due: true,
@@ -30,14 +28,14 @@ impl Prefix {
 
     // Whether the bytes read are a whole program.
     pub fn is_whole(self) -> bool
-        ensures { λ r. ⌜ r ≡ (not (self .due) && eqb (self .depth) 0) ⌝ }
+        ensures { result ≡ (not self.due && self.depth == 0) }
     {
         !self.due && self.depth == 0
     }
 
     // After one more character, or none where no program goes on so.
     pub fn step(self, c: char) -> Option<Prefix>
-        ensures { λ r. ⌜ r ≡ stepped self c ⌝ }
+        ensures { result ≡ stepped self c }
     {
         match c {
             '+' | ';' => self.operator(),
@@ -51,7 +49,7 @@ impl Prefix {
     }
 
     fn operator(self) -> Option<Prefix>
-        ensures { λ r. ⌜ r ≡ operated self ⌝ }
+        ensures { result ≡ operated self }
     {
         if self.due {
             return None;
@@ -64,7 +62,7 @@ impl Prefix {
     }
 
     fn star(self) -> Option<Prefix>
-        ensures { λ r. ⌜ r ≡ starred self ⌝ }
+        ensures { result ≡ starred self }
     {
         if self.due {
             return None;
@@ -77,7 +75,7 @@ impl Prefix {
     }
 
     fn open(self) -> Option<Prefix>
-        ensures { λ r. ⌜ r ≡ opened self ⌝ }
+        ensures { result ≡ opened self }
     {
         if !self.due || self.depth >= 8 {
             return None;
@@ -90,7 +88,7 @@ impl Prefix {
     }
 
     fn close(self) -> Option<Prefix>
-        ensures { λ r. ⌜ r ≡ shut self ⌝ }
+        ensures { result ≡ shut self }
     {
         if self.due || self.depth == 0 {
             return None;
@@ -104,7 +102,7 @@ impl Prefix {
 
     // A letter begins a name where a factor is due, and goes on with one elsewhere.
     fn letter(self) -> Option<Prefix>
-        ensures { λ r. ⌜ r ≡ lettered self ⌝ }
+        ensures { result ≡ lettered self }
     {
         if self.due {
             return Some(Prefix {
@@ -117,7 +115,7 @@ impl Prefix {
     }
 
     fn naming(self) -> Option<Prefix>
-        ensures { λ r. ⌜ r ≡ lengthened self ⌝ }
+        ensures { result ≡ lengthened self }
     {
         if self.due || self.name == 0 || self.name >= 16 {
             return None;
@@ -133,7 +131,7 @@ impl Prefix {
 // Whether the text is a well-formed program; else the least column such that no well-formed program begins with the
 // bytes up to it, or the length plus 1.
 pub fn check(text: &[u8]) -> Result<(), ProgramFault>
-    ensures { λ r. ⌜ Cases r (λ _. Well-formed (now (text .entry))) (λ f. Malformed-by (now (text .entry)) f) ⌝ }
+    ensures { MatchResult result (λ _. WellFormed text.now) (λ f. MalformedBy text.now f) }
 {
     let mut at = 0;
     let mut prefix = Prefix::start();

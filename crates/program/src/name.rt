@@ -1,11 +1,6 @@
 // Names: 1 to 16 of a-z, 0-9 and _, a letter first.
-ghost use mathlib.Core.Path.{_≡_};
-ghost use mathlib.Core.List.{map};
-ghost use Prim.Native.Nat.{_≤_};
-ghost use lib.ListN.{length, getD};
-ghost use Rattle·std.specs.Options.{Cases};
-ghost use Rattle·std.specs.Orderings.{Decides};
-ghost use Rattle·program·specs.Names.{letter, naming, Named, spelled, Missing, Number};
+ghost use Rattle.std.specs.Prelude.{◌≡◌, ◌≤◌, map, length, Decides, MatchOption, slice_index};
+ghost use Rattle.program.specs.Names.{letter, naming, Named, spelled, Missing, Number};
 
 #[derive(Clone, Copy)]
 pub struct Name {
@@ -14,20 +9,20 @@ pub struct Name {
 }
 
 pub fn is_letter(b: u8) -> bool
-    ensures { λ r. ⌜ r ≡ letter b ⌝ }
+    ensures { result ≡ letter b }
 {
     matches!(b, b'a'..=b'z')
 }
 
 pub fn is_naming(b: u8) -> bool
-    ensures { λ r. ⌜ r ≡ naming b ⌝ }
+    ensures { result ≡ naming b }
 {
     matches!(b, b'a'..=b'z' | b'0'..=b'9' | b'_')
 }
 
 // Whether the field is a well-formed name.
 pub fn is_name(field: &[u8]) -> bool
-    ensures { λ r. ⌜ Decides r (Named (now (field .entry))) ⌝ }
+    ensures { Decides result (Named field.now) }
 {
     if field.len() == 0 || field.len() > 16 {
         return false;
@@ -46,7 +41,7 @@ pub fn is_name(field: &[u8]) -> bool
 impl Name {
     // A name of no letter, for places not in use.
     pub fn blank() -> Name
-        ensures { λ r. ⌜ r .len ≡ 0 ⌝ }
+        ensures { result.len ≡ 0 }
     {
         Name {
             bytes: [0; 16],
@@ -56,7 +51,7 @@ impl Name {
 
     // The name that the field spells, if it is well formed.
     pub fn read(field: &[u8]) -> Option<Name>
-        ensures { λ r. ⌜ Cases r (Named (now (field .entry)) → ⊥) (λ n. Named (now (field .entry)) × (spelled n ≡ now (field .entry))) ⌝ }
+        ensures { MatchOption result (Named field.now → ⊥) (λ n. Named field.now × (spelled n ≡ field.now)) }
     {
         if !is_name(field) {
             return None;
@@ -72,22 +67,22 @@ impl Name {
     }
 
     pub fn len(&self) -> usize
-        ensures is { λ r. ⌜ r ≡ length (spelled (now (self .entry))) ⌝ }
-        ensures few { λ r. ⌜ r ≤ 16 ⌝ }
+        ensures is { result ≡ length (spelled self.now) }
+        ensures few { result ≤ 16 }
     {
         if self.len < 16 { self.len } else { 16 }
     }
 
     // The byte at a place below the length.
     pub fn byte(&self, k: usize) -> u8
-        ensures { λ r. ⌜ r ≡ getD (spelled (now (self .entry))) k 0 ⌝ }
+        ensures { result ≡ slice_index (spelled self.now) k }
     {
         if k < self.len() { self.bytes[k] } else { 0 }
     }
 
     // Whether the field spells this name.
     pub fn is(&self, field: &[u8]) -> bool
-        ensures { λ r. ⌜ Decides r (spelled (now (self .entry)) ≡ now (field .entry)) ⌝ }
+        ensures { Decides result (spelled self.now ≡ field.now) }
     {
         if field.len() != self.len() {
             return false;
@@ -103,7 +98,7 @@ impl Name {
 
 // The number of the name that the field spells.
 pub fn find(names: &[Name], field: &[u8]) -> Option<usize>
-    ensures { λ r. ⌜ Cases r (Missing (map spelled (now (names .entry))) (now (field .entry))) (λ i. Number (map spelled (now (names .entry))) (now (field .entry)) i) ⌝ }
+    ensures { MatchOption result (Missing (map spelled names.now) field.now) (λ i. Number (map spelled names.now) field.now i) }
 {
     for i in 0..names.len() {
         if names[i].is(field) {

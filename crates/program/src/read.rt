@@ -1,31 +1,22 @@
 // The readers of a program's text: a sum of sequences of factors. Each gives the masks of its part, and enters
 // its names and what follows what into the draft.
-ghost use mathlib.Core.Path.{_≡_};
-ghost use mathlib.Core.Bool.{true};
-ghost use mathlib.Core.List.{map};
-ghost use Prim.Native.Nat.{ℕ, _+_, _<_, _≤_};
-ghost use lib.ListN.{length, getD};
-ghost use Rattle·std.specs.Results.{Cases};
-ghost use Rattle·std.specs.Vec.{made};
-ghost use Rattle·program·specs.Names.{naming as is-naming, spelled};
-ghost use Rattle·program·specs.Programs.{One-program, Refused, Spells-row};
-ghost use Rattle·program·specs.Reading.{Closed-off, Reads-word, Reads-atom, Reads-part};
-ghost use Rattle·program·specs.Text.{Kind};
+ghost use Rattle.std.specs.Prelude.{◌≡◌, ℕ, ◌+◌, ◌<◌, ◌≤◌, true, map, length, IfOk, MatchResult, ◌≢◌, slice_index};
+ghost use Rattle.program.specs.Names.{naming as is-naming, spelled};
+ghost use Rattle.program.specs.Programs.{OneProgram, Refused, SpellsRow};
+ghost use Rattle.program.specs.Reading.{ClosedOff, ReadsWord, ReadsAtom, ReadsPart};
+ghost use Rattle.program.specs.Text.{Kind};
+
 use crate::check::check;
 use crate::fault::ProgramFault;
-use crate::name::Name;
-use crate::name::find;
-use crate::name::is_naming;
-use crate::row::Draft;
-use crate::row::Part;
-use crate::row::Row;
+use crate::name::{Name, find, is_naming};
+use crate::row::{Draft, Part, Row};
 
 // Where the name that begins at `at` ends.
 fn name_end(text: &[u8], at: usize) -> usize
-    requires { ⌜ at ≤ length (now text) ⌝ }
-    ensures within { λ r. ⌜ (at ≤ r) × (r ≤ length (now (text .entry))) ⌝ }
-    ensures all { λ r. ⌜ ((k : ℕ) → at ≤ k → k < r → is-naming (getD (now (text .entry)) k 0) ≡ true) ⌝ }
-    ensures stops { λ r. ⌜ (r < length (now (text .entry)) → is-naming (getD (now (text .entry)) r 0) ≡ true → ⊥) ⌝ }
+    requires { at ≤ length text.now }
+    ensures within { (at ≤ result) × (result ≤ length text.now) }
+    ensures all { (k : ℕ) → at ≤ k → k < result → is-naming (slice_index text.now k) ≡ true }
+    ensures stops { result < length text.now → is-naming (slice_index text.now result) ≢ true }
 {
     let mut end = at;
     while end < text.len() && is_naming(text[end]) {
@@ -36,10 +27,10 @@ fn name_end(text: &[u8], at: usize) -> usize
 
 // Where the stars that begin at `at` end.
 fn stars_end(text: &[u8], at: usize) -> usize
-    requires { ⌜ at ≤ length (now text) ⌝ }
-    ensures within { λ r. ⌜ (at ≤ r) × (r ≤ length (now (text .entry))) ⌝ }
-    ensures all { λ r. ⌜ ((k : ℕ) → at ≤ k → k < r → getD (now (text .entry)) k 0 ≡ 42) ⌝ }
-    ensures stops { λ r. ⌜ (r < length (now (text .entry)) → getD (now (text .entry)) r 0 ≡ 42 → ⊥) ⌝ }
+    requires { at ≤ length text.now }
+    ensures within { (at ≤ result) × (result ≤ length text.now) }
+    ensures all { (k : ℕ) → at ≤ k → k < result → slice_index text.now k ≡ 42 }
+    ensures stops { result < length text.now → slice_index text.now result ≢ 42 }
 {
     let mut end = at;
     while end < text.len() && text[end] == b'*' {
@@ -50,9 +41,9 @@ fn stars_end(text: &[u8], at: usize) -> usize
 
 // An action name.
 fn action(text: &[u8], at: usize, acts: &[Name], draft: &mut Draft) -> Result<Part, ProgramFault>
-    requires { ⌜ at ≤ length (now text) ⌝ ∗ ⌜ now draft .names ≤ at ⌝ }
-    ensures bound { λ r. ⌜ made r (λ p. (at < p .end) × (p .end ≤ length (now (text .entry))) × (now (draft .exit) .names ≤ p .end)) ⌝ }
-    ensures reads { λ r. ⌜ Reads-word (now (text .entry)) at (map spelled (now (acts .entry))) (now (draft .entry)) (now (draft .exit)) r ⌝ }
+    requires { (at ≤ length text.now) × (draft.old.names ≤ at) }
+    ensures bound { IfOk result (λ p. (at < p.end) × (p.end ≤ length text.now) × (draft.new.names ≤ p.end)) }
+    ensures reads { ReadsWord text.now at (map spelled acts.now) draft.old draft.new result }
 {
     let end = name_end(text, at);
     if end == at {
@@ -74,7 +65,7 @@ fn action(text: &[u8], at: usize, acts: &[Name], draft: &mut Draft) -> Result<Pa
 
 // The sum that was read behind an opening parenthesis, with the closing one.
 fn closed(text: &[u8], inside: Part) -> Result<Part, ProgramFault>
-    ensures { λ r. ⌜ Closed-off (now (text .entry)) inside r ⌝ }
+    ensures { ClosedOff text.now inside result }
 {
     let end = inside.end;
     if end < text.len() && text[end] == b')' {
@@ -91,10 +82,11 @@ fn closed(text: &[u8], inside: Part) -> Result<Part, ProgramFault>
 }
 
 // A name or a sum in parentheses.
+#[cycle(atom_factor_sequence_sum)]
 fn atom(text: &[u8], at: usize, acts: &[Name], draft: &mut Draft) -> Result<Part, ProgramFault>
-    requires { ⌜ at ≤ length (now text) ⌝ ∗ ⌜ now draft .names ≤ at ⌝ }
-    ensures bound { λ r. ⌜ made r (λ p. (at < p .end) × (p .end ≤ length (now (text .entry))) × (now (draft .exit) .names ≤ p .end)) ⌝ }
-    ensures reads { λ r. ⌜ Reads-atom (now (text .entry)) at (map spelled (now (acts .entry))) (now (draft .entry)) (now (draft .exit)) r ⌝ }
+    requires { (at ≤ length text.now) × (draft.old.names ≤ at) }
+    ensures bound { IfOk result (λ p. (at < p.end) × (p.end ≤ length text.now) × (draft.new.names ≤ p.end)) }
+    ensures reads { ReadsAtom text.now at (map spelled acts.now) draft.old draft.new result }
 {
     if at < text.len() && text[at] == b'(' {
         let inside = sum(text, at + 1, acts, draft)?;
@@ -104,10 +96,11 @@ fn atom(text: &[u8], at: usize, acts: &[Name], draft: &mut Draft) -> Result<Part
 }
 
 // A name or a sum in parentheses, and its stars.
+#[cycle(atom_factor_sequence_sum)]
 fn factor(text: &[u8], at: usize, acts: &[Name], draft: &mut Draft) -> Result<Part, ProgramFault>
-    requires { ⌜ at ≤ length (now text) ⌝ ∗ ⌜ now draft .names ≤ at ⌝ }
-    ensures bound { λ r. ⌜ made r (λ p. (at < p .end) × (p .end ≤ length (now (text .entry))) × (now (draft .exit) .names ≤ p .end)) ⌝ }
-    ensures reads { λ r. ⌜ Reads-part Kind.factor (now (text .entry)) at (map spelled (now (acts .entry))) (now (draft .entry)) (now (draft .exit)) r ⌝ }
+    requires { (at ≤ length text.now) × (draft.old.names ≤ at) }
+    ensures bound { IfOk result (λ p. (at < p.end) × (p.end ≤ length text.now) × (draft.new.names ≤ p.end)) }
+    ensures reads { ReadsPart Kind.factor text.now at (map spelled acts.now) draft.old draft.new result }
 {
     let base = atom(text, at, acts, draft)?;
     let end = stars_end(text, base.end);
@@ -119,10 +112,11 @@ fn factor(text: &[u8], at: usize, acts: &[Name], draft: &mut Draft) -> Result<Pa
 }
 
 // Factors one after another.
+#[cycle(atom_factor_sequence_sum)]
 fn sequence(text: &[u8], at: usize, acts: &[Name], draft: &mut Draft) -> Result<Part, ProgramFault>
-    requires { ⌜ at ≤ length (now text) ⌝ ∗ ⌜ now draft .names ≤ at ⌝ }
-    ensures bound { λ r. ⌜ made r (λ p. (at < p .end) × (p .end ≤ length (now (text .entry))) × (now (draft .exit) .names ≤ p .end)) ⌝ }
-    ensures reads { λ r. ⌜ Reads-part Kind.sequence (now (text .entry)) at (map spelled (now (acts .entry))) (now (draft .entry)) (now (draft .exit)) r ⌝ }
+    requires { (at ≤ length text.now) × (draft.old.names ≤ at) }
+    ensures bound { IfOk result (λ p. (at < p.end) × (p.end ≤ length text.now) × (draft.new.names ≤ p.end)) }
+    ensures reads { ReadsPart Kind.sequence text.now at (map spelled acts.now) draft.old draft.new result }
 {
     let left = factor(text, at, acts, draft)?;
     let end = left.end;
@@ -135,10 +129,11 @@ fn sequence(text: &[u8], at: usize, acts: &[Name], draft: &mut Draft) -> Result<
 }
 
 // One sequence or another.
+#[cycle(atom_factor_sequence_sum)]
 fn sum(text: &[u8], at: usize, acts: &[Name], draft: &mut Draft) -> Result<Part, ProgramFault>
-    requires { ⌜ at ≤ length (now text) ⌝ ∗ ⌜ now draft .names ≤ at ⌝ }
-    ensures bound { λ r. ⌜ made r (λ p. (at < p .end) × (p .end ≤ length (now (text .entry))) × (now (draft .exit) .names ≤ p .end)) ⌝ }
-    ensures reads { λ r. ⌜ Reads-part Kind.sum (now (text .entry)) at (map spelled (now (acts .entry))) (now (draft .entry)) (now (draft .exit)) r ⌝ }
+    requires { (at ≤ length text.now) × (draft.old.names ≤ at) }
+    ensures bound { IfOk result (λ p. (at < p.end) × (p.end ≤ length text.now) × (draft.new.names ≤ p.end)) }
+    ensures reads { ReadsPart Kind.sum text.now at (map spelled acts.now) draft.old draft.new result }
 {
     let left = sequence(text, at, acts, draft)?;
     let end = left.end;
@@ -151,9 +146,9 @@ fn sum(text: &[u8], at: usize, acts: &[Name], draft: &mut Draft) -> Result<Part,
 
 // The row of the program that the text spells over the declared actions, or why there is none.
 pub fn read(text: &[u8], acts: &[Name]) -> Result<Row, ProgramFault>
-    ensures names { λ r. ⌜ made r (λ row. row .names ≤ 15) ⌝ }
-    ensures one { λ r. ⌜ One-program ⌝ }
-    ensures says { λ r. ⌜ Cases r (λ row. Spells-row (now (text .entry)) (map spelled (now (acts .entry))) row) (λ f. Refused (now (text .entry)) (map spelled (now (acts .entry))) f) ⌝ }
+    ensures names { IfOk result (λ row. row.names ≤ 15) }
+    ensures one { OneProgram }
+    ensures says { MatchResult result (λ row. SpellsRow text.now (map spelled acts.now) row) (λ f. Refused text.now (map spelled acts.now) f) }
 {
     check(text)?;
     let mut draft = Draft::new();

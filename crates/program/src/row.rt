@@ -1,15 +1,11 @@
 // What a program comes to: its action names in order, and masks of the names that can begin, end and follow.
 // Names are numbered from 1; bit i of a mask stands for name i.
-ghost use mathlib.Core.Path.{_≡_};
-ghost use Prim.Native.Nat.{ℕ, _+_, _^_, _<_, _≤_};
-ghost use lib.ListN.{length, replicate};
-ghost use mathlib.Core.Bool.{cond};
-ghost use lib.Bits.{bitOr};
-ghost use Rattle·program·specs.Automata.{names as names-of};
-ghost use Rattle·program·specs.Masks.{Marks};
-ghost use Rattle·program·specs.Reading.{Part-of, Entered, Joined};
-ghost use Rattle·program·specs.RowStates.{statesOf};
-ghost use Rattle·program·specs.Words.{Program, act, either as either-of, seq, star};
+ghost use Rattle.std.specs.Prelude.{◌≡◌, ℕ, ◌+◌, ◌^◌, ◌<◌, ◌≤◌, length, replicate, if◌then◌else◌, bit_or};
+ghost use Rattle.program.specs.Automata.{names as names_of};
+ghost use Rattle.program.specs.Masks.{Marks};
+ghost use Rattle.program.specs.Reading.{PartOf, Entered, Joined};
+ghost use Rattle.program.specs.RowStates.{states_in};
+ghost use Rattle.program.specs.Words.{Program, act, either as either-of, seq, star};
 
 #[derive(Clone, Copy)]
 pub struct Row {
@@ -24,7 +20,7 @@ pub struct Row {
 impl Row {
     // A row of no name, for places not in use.
     pub fn blank() -> Row
-        ensures { λ r. ⌜ r .names ≡ 0 ⌝ }
+        ensures { result.names ≡ 0 }
     {
         Row {
             names: 0,
@@ -38,9 +34,9 @@ impl Row {
 
     // How many states its automaton has: one for each name after state 0.
     pub fn states(&self) -> usize
-        ensures is { λ r. ⌜ r ≡ statesOf (now (self .entry)) ⌝ }
-        ensures bound { λ r. ⌜ (1 ≤ r) × (r ≤ 16) ⌝ }
-        ensures count { λ r. ⌜ (now (self .entry) .names < 16 → r ≡ now (self .entry) .names + 1) ⌝ }
+        ensures is { result ≡ states_in self.now }
+        ensures bound { (1 ≤ result) × (result ≤ 16) }
+        ensures count { self.now.names < 16 → result ≡ self.now.names + 1 }
     {
         if self.names < 16 {
             self.names as usize + 1
@@ -61,7 +57,7 @@ pub struct Part {
 
 // The names of a mask, and those of another where `also` says so.
 fn with(mask: u16, more: u16, also: bool) -> u16
-    ensures { λ r. ⌜ r ≡ cond also (bitOr mask more) mask ⌝ }
+    ensures { result ≡ (if also then bit_or mask more else mask) }
 {
     if also {
         return mask | more;
@@ -72,8 +68,8 @@ fn with(mask: u16, more: u16, also: bool) -> u16
 impl Part {
     // One part or the other.
     pub fn either(self, right: Part) -> Part
-        ensures end { λ r. ⌜ r .end ≡ right .end ⌝ }
-        ensures is { λ r. ⌜ ((p q : Program) (i : ℕ) → Part-of p i self → Part-of q (i + length (names-of p)) right → Part-of (either-of p q) i r) ⌝ }
+        ensures end { result.end ≡ right.end }
+        ensures is { (p q : Program) (i : ℕ) → PartOf p i self → PartOf q (i + length (names_of p)) right → PartOf (either-of p q) i result }
     {
         Part {
             nullable: self.nullable || right.nullable,
@@ -85,8 +81,8 @@ impl Part {
 
     // One part and then the other.
     pub fn then(self, right: Part) -> Part
-        ensures end { λ r. ⌜ r .end ≡ right .end ⌝ }
-        ensures is { λ r. ⌜ ((p q : Program) (i : ℕ) → Part-of p i self → Part-of q (i + length (names-of p)) right → Part-of (seq p q) i r) ⌝ }
+        ensures end { result.end ≡ right.end }
+        ensures is { (p q : Program) (i : ℕ) → PartOf p i self → PartOf q (i + length (names_of p)) right → PartOf (seq p q) i result }
     {
         Part {
             nullable: self.nullable && right.nullable,
@@ -98,8 +94,8 @@ impl Part {
 
     // Zero or more times, with its stars read up to `end`.
     pub fn starred(self, end: usize) -> Part
-        ensures end { λ r. ⌜ r .end ≡ end ⌝ }
-        ensures is { λ r. ⌜ ((p : Program) (i : ℕ) → Part-of p i self → Part-of (star p) i r) ⌝ }
+        ensures end { result.end ≡ end }
+        ensures is { (p : Program) (i : ℕ) → PartOf p i self → PartOf (star p) i result }
     {
         Part {
             nullable: true,
@@ -120,7 +116,7 @@ pub struct Draft {
 
 impl Draft {
     pub fn new() -> Draft
-        ensures { λ r. ⌜ r ≡ record { names = 0; actions = replicate 16 0; follow = replicate 16 0 } ⌝ }
+        ensures { result ≡ record { names = 0; actions = replicate 16 0; follow = replicate 16 0 } }
     {
         Draft {
             names: 0,
@@ -131,10 +127,10 @@ impl Draft {
 
     // One name more, of this action: its bit, or 0 past the fifteenth.
     pub fn add(&mut self, action: u8) -> u16
-        requires { ⌜ now self .names + 1 < 2 ^ 64 ⌝ }
-        ensures count { λ r. ⌜ now (self .exit) .names ≡ now (self .entry) .names + 1 ⌝ }
-        ensures entered { λ r. ⌜ Entered (act action) (now (self .entry)) (now (self .exit)) ⌝ }
-        ensures bit { λ r. ⌜ Marks r (λ n. n ≡ now (self .entry) .names + 1) ⌝ }
+        requires { self.old.names + 1 < 2 ^ 64 }
+        ensures count { self.new.names ≡ self.old.names + 1 }
+        ensures entered { Entered (act action) self.old self.new }
+        ensures bit { Marks result (λ n. n ≡ self.old.names + 1) }
     {
         self.names += 1;
         let name = self.names;
@@ -147,7 +143,7 @@ impl Draft {
 
     // Each name of `from` may be followed by each of `to`.
     pub fn connect(&mut self, from: u16, to: u16)
-        ensures { λ _. ⌜ Joined from to (now (self .entry)) (now (self .exit)) ⌝ }
+        ensures { Joined from to self.old self.new }
     {
         for i in 1..16 {
             if (from >> i) & 1 == 1 {

@@ -1,25 +1,20 @@
 -- What each call does, as a relation of what was handed over, the study before and after, and the answer.
-use mathlib.Core.Path.{_≡_}
-use mathlib.Core.List.{List, [], _∷_, _++_}
-use mathlib.Core.Logic.{_⊎_}
-use mathlib.Core.Bool.{Bool, true, false, cond}
-use Prim.Native.Nat.{ℕ, zero, suc, _+_, _-_, _*_, _<_, _≤_}
-use lib.ListN.{length, getD}
-use Rattle·document.specs.Documents.{Document}
-use Rattle·document.specs.Lines.{Declarations, document-of}
-use Rattle·document.specs.Outcomes as outcomes
-use Rattle·document.specs.Outcomes.{Loads}
-use Rattle·lasso.specs.Readings.{Moment, Lasso, Lasso-of, Meets}
-use Rattle·system.specs.TransitionGraph.{TransitionGraph, Lawful}
-use Rattle·tableau.specs.Graphs.{Node, First-node, Lists, Tables, Opens}
-use Rattle·study·specs.Sessions.{Session}
+use Rattle.std.specs.Prelude.{◌≡◌, ℕ, zero, suc, ◌+◌, ◌-◌, ◌*◌, ◌<◌, ◌≤◌, Bool, true, false, cond, ◌⊎◌, List, [], ◌∷◌, ◌++◌, length, get_or}
+use Rattle.document.specs.Documents.{Document}
+use Rattle.document.specs.Lines.{Declarations, document_of}
+use Rattle.document.specs.Outcomes as outcomes
+use Rattle.document.specs.Outcomes.{Loads}
+use Rattle.lasso.specs.Readings.{Moment, Lasso, LassoOf, Meets}
+use Rattle.system.specs.TransitionGraph.{TransitionGraph, Lawful}
+use Rattle.tableau.specs.Graphs.{Node, FirstNode, Lists, Tables, Opens}
+use Rattle.study.specs.Sessions.{Session}
 
 -- the places of the two tables, counted up to their limits
 pub record Places : Type 0 where
   pub nodes : ℕ
   pub edges : ℕ
-  pub few-nodes : nodes ≤ 4096
-  pub few-edges : edges ≤ 65536
+  pub few_nodes : nodes ≤ 4096
+  pub few_edges : edges ≤ 65536
 
 -- a study as a caller knows it: blank, or a document with the units worked since loading and the tables in use
 pub data Study : Type 0 where
@@ -46,70 +41,70 @@ pub data Answer (A : Type 0) : Type 0 where
   gave : A → Answer A
 
 -- unit number k, counted from 0: the first enters the first nodes, each other opens a node
-abbrev pub Unit-of : Document → ℕ → Tables → Tables → Type 0
-Unit-of d zero t u = (t ≡ empty) × Lists (u .nodes) (First-node d) × (u .edges ≡ [])
-Unit-of d (suc k) t u = Opens d k t u
+abbrev pub UnitOf : Document → ℕ → Tables → Tables → Type 0
+UnitOf d zero t u = (t ≡ empty) × Lists u.nodes (FirstNode d) × (u.edges ≡ [])
+UnitOf d (suc k) t u = Opens d k t u
 
 -- units k, k + 1, .., one after another
 pub data Units (d : Document) : ℕ → ℕ → Tables → Tables → Type 0 where
   none : {k : ℕ} {t : Tables} → Units d k 0 t t
-  one-more : {k n : ℕ} {t u v : Tables} → Units d k n t u → Unit-of d (k + n) u v → Units d k (suc n) t v
+  one_more : {k n : ℕ} {t u v : Tables} → Units d k n t u → UnitOf d (k + n) u v → Units d k (suc n) t v
 
 abbrev pub Fits : Places → Tables → Type 0
-Fits p t = (length (t .nodes) ≤ p .nodes) × (length (t .edges) ≤ p .edges)
+Fits p t = (length t.nodes ≤ p.nodes) × (length t.edges ≤ p.edges)
 
 -- no unit is left after k
-abbrev pub None-left : ℕ → Tables → Type 0
-None-left k t = k ≡ suc (length (t .nodes))
+abbrev pub NoneLeft : ℕ → Tables → Type 0
+NoneLeft k t = k ≡ suc (length t.nodes)
 
 abbrev pub Reports : Places → Document → ℕ → Tables → ℕ → Growth → Type 0
-Reports p d k u b g = elim (g .report) [
-  | complete ↦ None-left k u
-  | full ↦ (None-left k u → ⊥) × (g .units < b) × ((v : Tables) → Unit-of d k u v → Fits p v → ⊥)
-  | more ↦ (None-left k u → ⊥) × (g .units ≡ b)
+Reports p d k u b g = elim g.report [
+  | complete ↦ NoneLeft k u
+  | full ↦ (NoneLeft k u → ⊥) × (g.units < b) × ((v : Tables) → UnitOf d k u v → Fits p v → ⊥)
+  | more ↦ (NoneLeft k u → ⊥) × (g.units ≡ b)
 ]
 
 pub record Grows (p : Places) (d : Document) (k : ℕ) (t : Tables) (b : ℕ) (g : Growth) (u : Tables) : Type 0 where
-  pub worked : Units d k (g .units) t u
-  pub within : g .units ≤ b
+  pub worked : Units d k g.units t u
+  pub within : g.units ≤ b
   pub fits : Fits p u
-  pub reports : Reports p d (k + g .units) u b g
+  pub reports : Reports p d (k + g.units) u b g
 
-abbrev pub Does-grow : Places → Study → ℕ → Answer Growth → Study → Type 0
-Does-grow p blank b r s = (r ≡ refused 7) × (s ≡ blank)
-Does-grow p (loaded d k t) b r s = (g : Growth) × (u : Tables) × (r ≡ gave g) × (s ≡ loaded d (k + g .units) u) × Grows p d k t b g u
+abbrev pub DoesGrow : Places → Study → ℕ → Answer Growth → Study → Type 0
+DoesGrow p blank b r s = (r ≡ refused 7) × (s ≡ blank)
+DoesGrow p (loaded d k t) b r s = (g : Growth) × (u : Tables) × (r ≡ gave g) × (s ≡ loaded d (k + g.units) u) × Grows p d k t b g u
 
 abbrev pub Decides : (Lasso → Type 0) → ℕ → Answer Verdict → Type 0
 Decides P pairs (refused c) = ⊥
-Decides P pairs (gave (found l)) = P l × (length (l .steps) ≤ 2 * pairs)
+Decides P pairs (gave (found l)) = P l × (length l.steps ≤ 2 * pairs)
 Decides P pairs (gave none) = (l : Lasso) → P l → ⊥
 
 -- decide, with w work places and v step places
-abbrev pub Does-decide : Study → ℕ → ℕ → Answer Verdict → Type 0
-Does-decide blank w v r = r ≡ refused 7
-Does-decide (loaded d k t) w v r =
-    ((None-left k t → ⊥) × (r ≡ refused 8))
-    ⊎ (None-left k t × ((w < 4 * length (t .nodes)) ⊎ (v < 2 * length (t .nodes))) × (r ≡ refused 9))
-    ⊎ (None-left k t × (4 * length (t .nodes) ≤ w) × (2 * length (t .nodes) ≤ v)
-    × Decides (λ l. Lasso-of d l × Meets d l) (length (t .nodes)) r)
+abbrev pub DoesDecide : Study → ℕ → ℕ → Answer Verdict → Type 0
+DoesDecide blank w v r = r ≡ refused 7
+DoesDecide (loaded d k t) w v r =
+    ((NoneLeft k t → ⊥) × (r ≡ refused 8))
+    ⊎ (NoneLeft k t × ((w < 4 * length t.nodes) ⊎ (v < 2 * length t.nodes)) × (r ≡ refused 9))
+    ⊎ (NoneLeft k t × (4 * length t.nodes ≤ w) × (2 * length t.nodes ≤ v)
+    × Decides (λ l. LassoOf d l × Meets d l) (length t.nodes) r)
 
 -- examine, of a system
-abbrev pub Does-examine : Study → TransitionGraph → ℕ → ℕ → Answer Verdict → Type 0
-Does-examine blank g w v r = r ≡ refused 7
-Does-examine (loaded d k t) g w v r =
-    ((None-left k t → ⊥) × (r ≡ refused 8))
-    ⊎ (None-left k t × (g .count ≡ 0) × (r ≡ refused 11))
-    ⊎ (None-left k t × (0 < g .count) × (65536 < length (t .nodes) * g .count) × (r ≡ refused 10))
-    ⊎ (None-left k t × (0 < g .count) × (length (t .nodes) * g .count ≤ 65536)
-    × ((w < 4 * (length (t .nodes) * g .count)) ⊎ (v < 2 * (length (t .nodes) * g .count))) × (r ≡ refused 9))
-    ⊎ (None-left k t × (0 < g .count) × (length (t .nodes) * g .count ≤ 65536)
-    × (4 * (length (t .nodes) * g .count) ≤ w) × (2 * (length (t .nodes) * g .count) ≤ v)
-    × Decides (λ l. Lasso-of d l × Meets d l × Session d g l) (length (t .nodes) * g .count) r)
+abbrev pub DoesExamine : Study → TransitionGraph → ℕ → ℕ → Answer Verdict → Type 0
+DoesExamine blank g w v r = r ≡ refused 7
+DoesExamine (loaded d k t) g w v r =
+    ((NoneLeft k t → ⊥) × (r ≡ refused 8))
+    ⊎ (NoneLeft k t × (g.count ≡ 0) × (r ≡ refused 11))
+    ⊎ (NoneLeft k t × (0 < g.count) × (65536 < length t.nodes * g.count) × (r ≡ refused 10))
+    ⊎ (NoneLeft k t × (0 < g.count) × (length t.nodes * g.count ≤ 65536)
+    × ((w < 4 * (length t.nodes * g.count)) ⊎ (v < 2 * (length t.nodes * g.count))) × (r ≡ refused 9))
+    ⊎ (NoneLeft k t × (0 < g.count) × (length t.nodes * g.count ≤ 65536)
+    × (4 * (length t.nodes * g.count) ≤ w) × (2 * (length t.nodes * g.count) ≤ v)
+    × Decides (λ l. LassoOf d l × Meets d l × Session d g l) (length t.nodes * g.count) r)
 
-abbrev pub Yes-exactly : Type 0 → Answer Bool → Type 0
-Yes-exactly P (refused c) = ⊥
-Yes-exactly P (gave true) = P
-Yes-exactly P (gave false) = P → ⊥
+abbrev pub YesExactly : Type 0 → Answer Bool → Type 0
+YesExactly P (refused c) = ⊥
+YesExactly P (gave true) = P
+YesExactly P (gave false) = P → ⊥
 
 -- a list of steps and a stem, as a caller hands them over; it need not be a lasso
 pub record Handed : Type 0 where
@@ -117,24 +112,24 @@ pub record Handed : Type 0 where
   pub stem : ℕ
 
 abbrev pub Served : Document → Handed → Type 0
-Served d h = (short : h .stem < length (h .steps)) × (length (h .steps) ≤ 131072) × Lasso-of d (record { steps = h .steps; stem = h .stem; short = short })
+Served d h = (short : h.stem < length h.steps) × (length h.steps ≤ 131072) × LassoOf d (record { steps = h.steps; stem = h.stem; short = short })
 
-abbrev pub Does-judge : Study → Handed → ℕ → Answer Bool → Type 0
-Does-judge blank h w r = r ≡ refused 7
-Does-judge (loaded d k t) h w r =
+abbrev pub DoesJudge : Study → Handed → ℕ → Answer Bool → Type 0
+DoesJudge blank h w r = r ≡ refused 7
+DoesJudge (loaded d k t) h w r =
     ((Served d h → ⊥) × (r ≡ refused 12))
-    ⊎ (Served d h × (w < 4 * length (h .steps)) × (r ≡ refused 9))
-    ⊎ ((y : Served d h) × (4 * length (h .steps) ≤ w)
-    × Yes-exactly (Meets d (record { steps = h .steps; stem = h .stem; short = y .0 })) r)
+    ⊎ (Served d h × (w < 4 * length h.steps) × (r ≡ refused 9))
+    ⊎ ((y : Served d h) × (4 * length h.steps ≤ w)
+    × YesExactly (Meets d (record { steps = h.steps; stem = h.stem; short = y.0 })) r)
 
-abbrev pub Does-audit : Study → TransitionGraph → Handed → ℕ → Answer Bool → Type 0
-Does-audit blank g h w r = r ≡ refused 7
-Does-audit (loaded d k t) g h w r =
+abbrev pub DoesAudit : Study → TransitionGraph → Handed → ℕ → Answer Bool → Type 0
+DoesAudit blank g h w r = r ≡ refused 7
+DoesAudit (loaded d k t) g h w r =
     ((Served d h → ⊥) × (r ≡ refused 12))
-    ⊎ (Served d h × (g .count ≡ 0) × (r ≡ refused 11))
-    ⊎ (Served d h × (0 < g .count) × (w < 4 * length (h .steps)) × (r ≡ refused 9))
-    ⊎ ((y : Served d h) × (0 < g .count) × (4 * length (h .steps) ≤ w)
-    × Yes-exactly (Meets d (record { steps = h .steps; stem = h .stem; short = y .0 }) × Session d g (record { steps = h .steps; stem = h .stem; short = y .0 })) r)
+    ⊎ (Served d h × (g.count ≡ 0) × (r ≡ refused 11))
+    ⊎ (Served d h × (0 < g.count) × (w < 4 * length h.steps) × (r ≡ refused 9))
+    ⊎ ((y : Served d h) × (0 < g.count) × (4 * length h.steps ≤ w)
+    × YesExactly (Meets d (record { steps = h.steps; stem = h.stem; short = y.0 }) × Session d g (record { steps = h.steps; stem = h.stem; short = y.0 })) r)
 
 -- a call with what it was handed and what it answered
 pub data Event : Type 0 where
@@ -146,22 +141,22 @@ pub data Event : Type 0 where
   audit : (g : TransitionGraph) → Lawful g → Handed → ℕ → Answer Bool → Event
   wipe : Event
 
-abbrev pub after-load : Answer Document → Study
-after-load (refused c) = blank
-after-load (gave d) = loaded d 0 empty
+abbrev pub after_load : Answer Document → Study
+after_load (refused c) = blank
+after_load (gave d) = loaded d 0 empty
 
 -- load answers what comes of the text
-abbrev pub Does-load : List ℕ → Answer Document → Type 0
-Does-load text (refused c) = (line : ℕ) × (column : ℕ) × Loads text (outcomes.refused c line column)
-Does-load text (gave d) = (e : Declarations) × (goal : ℕ) × Loads text (outcomes.taken e goal) × (d ≡ document-of e goal)
+abbrev pub DoesLoad : List ℕ → Answer Document → Type 0
+DoesLoad text (refused c) = (line : ℕ) × (column : ℕ) × Loads text (outcomes.refused c line column)
+DoesLoad text (gave d) = (e : Declarations) × (goal : ℕ) × Loads text (outcomes.taken e goal) × (d ≡ document_of e goal)
 
 abbrev pub Does : Places → Study → Event → Study → Type 0
-Does p s (load text r) t = Does-load text r × (t ≡ after-load r)
-Does p s (grow b r) t = Does-grow p s b r t
-Does p s (decide w v r) t = Does-decide s w v r × (t ≡ s)
-Does p s (examine g law w v r) t = Does-examine s g w v r × (t ≡ s)
-Does p s (judge h w r) t = Does-judge s h w r × (t ≡ s)
-Does p s (audit g law h w r) t = Does-audit s g h w r × (t ≡ s)
+Does p s (load text r) t = DoesLoad text r × (t ≡ after_load r)
+Does p s (grow b r) t = DoesGrow p s b r t
+Does p s (decide w v r) t = DoesDecide s w v r × (t ≡ s)
+Does p s (examine g law w v r) t = DoesExamine s g w v r × (t ≡ s)
+Does p s (judge h w r) t = DoesJudge s h w r × (t ≡ s)
+Does p s (audit g law h w r) t = DoesAudit s g h w r × (t ≡ s)
 Does p s wipe t = t ≡ blank
 
 -- a list of calls, the newest first, on an unused study, and the study that they leave

@@ -1,14 +1,14 @@
 -- The code and the line of a refused lasso text.
-use Prim.Native.Nat.{ℕ}
-use Rattle·document.specs.Faults.{lineCode}
-use Rattle·study·specs.Refusals.{refusalCode}
-use Rattle·study·specs.declared.refusal.TextFault.{TextFault}
-use Rattle·study·specs.declared.refusal.TextFault.the-variants.{Refused, Line}
+use Rattle.std.specs.Prelude.{ℕ}
+use Rattle.document.specs.Faults.{line_fault_code}
+use Rattle.study.specs.Refusals.{refusal_code}
+use Rattle.study.specs.declared.refusal.TextFault.{TextFault}
+use Rattle.study.specs.declared.refusal.TextFault.TheVariants.{Refused, Line}
 
-abbrev pub textCode : TextFault → ℕ
-textCode (Refused f) = refusalCode f
-textCode (Line f) = lineCode (f .fault)
+abbrev pub text_code : TextFault → ℕ
+text_code (Refused f) = refusal_code f
+text_code (Line f) = line_fault_code f.fault
 
-abbrev pub textLine : TextFault → ℕ
-textLine (Refused f) = 0
-textLine (Line f) = f .line
+abbrev pub text_line : TextFault → ℕ
+text_line (Refused f) = 0
+text_line (Line f) = f.line

@@ -1,17 +1,14 @@
 // Which lassos are sessions of a system.
-ghost use mathlib.Core.Path.{_≡_};
-ghost use mathlib.Core.Bool.{true};
-ghost use Prim.Native.Nat.{ℕ, _+_, _<_, _≤_};
-ghost use lib.ListN.{length, getD};
-ghost use Rattle·std.specs.Orderings.{Decides};
-ghost use Rattle·study·specs.Sessions.{Goes, Step-goes, Session-steps};
+ghost use Rattle.std.specs.Prelude.{◌≡◌, ℕ, ◌+◌, ◌<◌, ◌≤◌, true, length, Decides};
+ghost use Rattle.study.specs.Sessions.{Goes, StepGoes, SessionSteps};
+
 use lasso::step::Step;
 use lasso::until::after;
 use system::system::System;
 
 // Whether the system has the move.
 fn has_move<S: System>(system: S, state: usize, action: u8, target: usize) -> bool
-    ensures { λ r. ⌜ Decides r (Goes (meaning system .moves state) action target) ⌝ }
+    ensures { Decides result (Goes ((meaning system).moves state) action target) }
 {
     for k in 0..system.moves(state) {
         if let Some(m) = system.move_at(state, k) {
@@ -25,7 +22,7 @@ fn has_move<S: System>(system: S, state: usize, action: u8, target: usize) -> bo
 
 // Whether a step shows its state's marks among the declared ones, and goes along a move to the next state.
 fn step_goes<S: System>(system: S, declared: u16, step: Step, next: u16) -> bool
-    ensures { λ r. ⌜ Decides r (Step-goes (meaning system) declared step next) ⌝ }
+    ensures { Decides result (StepGoes (meaning system) declared step next) }
 {
     let state = step.state as usize;
     step.marks == system.marks(state) & declared
@@ -34,8 +31,8 @@ fn step_goes<S: System>(system: S, declared: u16, step: Step, next: u16) -> bool
 
 // Whether the lasso is a session of the system.
 pub fn is_session<S: System>(system: S, declared: u16, steps: &[Step], stem: usize) -> bool
-    requires { ⌜ stem < length (now steps) ⌝ }
-    ensures { λ r. ⌜ Decides r (Session-steps (meaning system) declared (now (steps .entry)) stem) ⌝ }
+    requires { stem < length steps.now }
+    ensures { Decides result (SessionSteps (meaning system) declared steps.now stem) }
 {
     if !system.starts(steps[0].state as usize) {
         return false;

@@ -1,9 +1,9 @@
 // Why a call on a study is refused.
-ghost use mathlib.Core.Path.{_≡_};
-ghost use Rattle·study·specs.Refusals.{refusalCode};
-ghost use Rattle·study·specs.TextFaults.{textCode, textLine};
-use document::fault::LineAt;
-use document::fault::LineFault;
+ghost use Rattle.std.specs.Prelude.{◌≡◌};
+ghost use Rattle.study.specs.Refusals.{refusal_code};
+ghost use Rattle.study.specs.TextFaults.{text_code, text_line};
+
+use document::fault::{LineAt, LineFault};
 
 #[derive(Clone, Copy, PartialEq, Eq, Debug)]
 pub enum Refusal {
@@ -25,7 +25,7 @@ pub enum Refusal {
 
 impl Refusal {
     pub fn code(self) -> u8
-        ensures { λ r. ⌜ r ≡ refusalCode self ⌝ }
+        ensures { result ≡ refusal_code self }
     {
         match self {
             Refusal::Blank => 7,
@@ -48,7 +48,7 @@ pub enum TextFault {
 
 impl TextFault {
     pub fn code(self) -> u8
-        ensures { λ r. ⌜ r ≡ textCode self ⌝ }
+        ensures { result ≡ text_code self }
     {
         match self {
             TextFault::Refused(refusal) => refusal.code(),
@@ -58,7 +58,7 @@ impl TextFault {
 
     // The line, or 0 where the text as a whole is refused.
     pub fn line(self) -> usize
-        ensures { λ r. ⌜ r ≡ textLine self ⌝ }
+        ensures { result ≡ text_line self }
     {
         match self {
             TextFault::Refused(_) => 0,

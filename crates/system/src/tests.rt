@@ -1,16 +1,12 @@
-ghost use mathlib.Core.Path.{_≡_};
-ghost use lib.ListN.{length};
-ghost use Rattle·system·specs.Counter.{counter, counter-lawful};
-ghost use Rattle·system·specs.Joint.{joint};
+ghost use Rattle.std.specs.Prelude.{◌≡◌, length};
+ghost use Rattle.system.specs.Counter.{counter, counter_lawful};
+ghost use Rattle.system.specs.Joint.{joint};
+
 use crate::joint::Joint;
-use crate::joint::JointSystem;
-use crate::listed::Listed;
-use crate::listed::ListedSystem;
-use crate::listed::Row;
-use crate::listed::StateRecord;
-use crate::system::Move;
-use crate::system::System;
-use std::test::*;
+use crate::listed::{Listed, Row, StateRecord};
+use crate::system::{Move, System};
+use std::process::Abort;
+use std::test::Fail;
 
 // A kind of a user's own: it counts round by action 0.
 #[derive(Clone, Copy)]
@@ -18,10 +14,10 @@ struct Counter {
     size: usize,
 }
 
-impl System for Counter as CounterSystem {
-    ghost meaning = { λ s. counter (s .size) };
+impl System for Counter {
+    ghost meaning = { λ s. counter s.size };
 
-    ghost lawful = { λ s. counter-lawful (s .size) };
+    ghost lawful = { λ s. counter_lawful s.size };
 
     fn count(&self) -> usize {
         if self.size <= 4096 { self.size } else { 0 }
@@ -61,28 +57,29 @@ const BLANK: StateRecord = StateRecord {
 };
 
 // The moves of a state are these, in this order.
-fn goes<S: System>(s: S, state: usize, moves: &[(u8, usize)]) -> Result<(), Fail> {
-    check_eq(s.moves(state), moves.len())?;
+fn goes<S: System>(rt: &impl Abort, s: S, state: usize, moves: &[(u8, usize)]) -> Result<(), Fail> {
+    assert_eq!(rt; s.moves(state), moves.len());
     for (k, (action, target)) in moves.iter().enumerate() {
         let Some(m) = s.move_at(state, k) else {
             return Err(Fail::new("a move is missing"));
         };
-        check_eq(m.action, *action)?;
-        check_eq(m.target, *target)?;
+        assert_eq!(rt; m.action, *action);
+        assert_eq!(rt; m.target, *target);
     }
-    check(s.move_at(state, moves.len()).is_none())
+    assert!(rt; s.move_at(state, moves.len()).is_none());
+    Ok(())
 }
 
 // At three systems of any kinds.
 fn three_high<A: System, B: System, C: System>(a: A, b: B, c: C, state: usize) -> usize
-    ensures { λ r. ⌜ r ≡ length (joint (joint (A·System .meaning a) (B·System .meaning b)) (C·System .meaning c) .moves state) ⌝ }
+    ensures { result ≡ length ((joint (joint (A.System.meaning a) (B.System.meaning b)) (C.System.meaning c)).moves state) }
 {
     Joint::new(Joint::new(a, b), c).moves(state)
 }
 
 // State 1 of the left and state 2 of three of the right are state 5.
 #[test]
-fn joint_states() -> Result<(), Fail> {
+fn joint_states(rt: HostRuntime) {
     let lefts = [
         BLANK,
         StateRecord {
@@ -99,10 +96,10 @@ fn joint_states() -> Result<(), Fail> {
         },
     ];
     let both = Joint::new(Listed::new(&[], &lefts, 0), Listed::new(&[], &rights, 0));
-    check_eq(both.count(), 6)?;
-    check(both.starts(5))?;
-    check_eq(both.marks(5), 6)?;
-    check(!both.starts(4) && !both.starts(2) && !both.starts(6))
+    assert_eq!(rt; both.count(), 6);
+    assert!(rt; both.starts(5));
+    assert_eq!(rt; both.marks(5), 6);
+    assert!(rt; !both.starts(4) && !both.starts(2) && !both.starts(6));
 }
 
 fn listed_count(records: &[StateRecord]) -> usize {
@@ -110,22 +107,22 @@ fn listed_count(records: &[StateRecord]) -> usize {
 }
 
 #[test]
-fn limits() -> Result<(), Fail> {
-    check_eq(
+fn limits(rt: HostRuntime) {
+    assert_eq!(rt;
         Joint::new(Counter { size: 64 }, Counter { size: 64 }).count(),
-        4096,
-    )?;
-    check_eq(
+        4096
+    );
+    assert_eq!(rt;
         Joint::new(Counter { size: 65 }, Counter { size: 64 }).count(),
-        0,
-    )?;
-    check_eq(listed_count(&[BLANK; 4096]), 4096)?;
-    check_eq(listed_count(&[BLANK; 4097]), 0)
+        0
+    );
+    assert_eq!(rt; listed_count(&[BLANK; 4096]), 4096);
+    assert_eq!(rt; listed_count(&[BLANK; 4097]), 0);
 }
 
 // A row that repeats an earlier one, or names a state or an action outside, is no move.
 #[test]
-fn rows() -> Result<(), Fail> {
+fn rows(rt: HostRuntime) -> Result<(), Fail> {
     let rows = [
         Row {
             from: 0,
@@ -164,14 +161,14 @@ fn rows() -> Result<(), Fail> {
         },
     ];
     let s = Listed::new(&rows, &[BLANK, BLANK], 3);
-    goes(s, 0, &[(1, 1), (0, 1)])?;
-    goes(s, 1, &[(0, 1)])?;
-    goes(s, 2, &[])
+    goes(&rt, s, 0, &[(1, 1), (0, 1)])?;
+    goes(&rt, s, 1, &[(0, 1)])?;
+    goes(&rt, s, 2, &[])
 }
 
 // Action 0 is the recorder's own, 1 hands a recording over, 2 is the server's own.
 #[test]
-fn recorder_and_server() -> Result<(), Fail> {
+fn recorder_and_server(rt: HostRuntime) -> Result<(), Fail> {
     let recorder = [
         Row {
             from: 0,
@@ -200,20 +197,20 @@ fn recorder_and_server() -> Result<(), Fail> {
         Listed::new(&recorder, &[BLANK, BLANK], 3),
         Listed::new(&server, &[BLANK, BLANK], 6),
     );
-    check_eq(both.actions(), 7)?;
-    goes(both, 0, &[(0, 2)])?;
-    goes(both, 1, &[(0, 3), (2, 0)])?;
-    goes(both, 2, &[(1, 1)])?;
-    goes(both, 3, &[(2, 2)])
+    assert_eq!(rt; both.actions(), 7);
+    goes(&rt, both, 0, &[(0, 2)])?;
+    goes(&rt, both, 1, &[(0, 3), (2, 0)])?;
+    goes(&rt, both, 2, &[(1, 1)])?;
+    goes(&rt, both, 3, &[(2, 2)])
 }
 
 #[test]
-fn three() -> Result<(), Fail> {
+fn three(rt: HostRuntime) -> Result<(), Fail> {
     let a = Counter { size: 2 };
     let b = Counter { size: 3 };
     let c = Counter { size: 4 };
-    check_eq(three_high(a, b, c, 23), 1)?;
-    check_eq(three_high(a, b, c, 24), 0)?;
-    goes(Joint::new(Joint::new(a, b), c), 23, &[(0, 0)])?;
-    goes(Joint::new(a, Joint::new(b, c)), 0, &[(0, 17)])
+    assert_eq!(rt; three_high(a, b, c, 23), 1);
+    assert_eq!(rt; three_high(a, b, c, 24), 0);
+    goes(&rt, Joint::new(Joint::new(a, b), c), 23, &[(0, 0)])?;
+    goes(&rt, Joint::new(a, Joint::new(b, c)), 0, &[(0, 17)])
 }

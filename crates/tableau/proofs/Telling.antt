@@ -1,103 +1,98 @@
 -- Masks of what a set of claims tells, form by form.
-use mathlib.Core.Path.{_≡_, refl, sym, ap, subst, _∙_}
-use mathlib.Core.Bool.{Bool, true, false, cond}
-use mathlib.Core.Logic.{_⊎_, inl, inr, _↔_}
-use Prim.Native.Nat.{ℕ, zero, suc, _+_, _*_, _%_, _^_, _<_}
-use native.Mathlib.Omega.{arith}
-use native.Mathlib.Nat.{mod-eq-of-lt, one-mul}
-use lib.Bits.{bitAnd, bitOr}
+use Rattle.std.proofs.Common.{◌≡◌, ℕ, zero, suc, ◌+◌, ◌*◌, ◌%◌, ◌^◌, ◌<◌, Bool, true, false, cond, ◌⊎◌, ◌↔◌, sym, refl, ap, ◌∙◌, subst, inl, inr, mod-eq_of_lt, one-mul, arith}
+use lib.Bits.{bit_and, bit_or}
 use lib.Pow.{pow-lt}
-use Rattle·std.proofs.shelf.Tests.{cases-order}
-use Rattle·program.specs.Masks.{Bit}
-use Rattle·program.proofs.Bits.{bit-or, bit-and, bit-one}
-use Rattle·document.specs.Documents.{Document, form-at}
-use Rattle·document.specs.declared.form.Form.{Form}
-use Rattle·document.specs.declared.form.Form.the-variants.{Next, Prop}
-use Rattle·tableau·specs.Graphs.{Sign, Sign.T, form}
-use Rattle·tableau·specs.Successions.{Claims}
-use Rattle·tableau·proofs.Clashing.{same-prop}
+use Rattle.std.proofs.lemmas.Bool.{cases_order}
+use Rattle.program.specs.Masks.{Bit}
+use Rattle.program.proofs.Bits.{bit_of_or, bit_of_and, bit_one}
+use Rattle.document.specs.Documents.{Document, form_at}
+use Rattle.document.specs.declared.form.Form.{Form}
+use Rattle.document.specs.declared.form.Form.TheVariants.{Next, Prop}
+use Rattle.tableau.specs.Graphs.{Sign, Sign.T, form}
+use Rattle.tableau.specs.Successions.{Claims}
+use Rattle.tableau.proofs.Clashing.{same_prop}
 
 -- a bit as the code shifts it
 shifted : (k : ℕ) → k < 16 → 1 * 2 ^ k % 65536 ≡ 2 ^ k
-shifted k h = let l : 2 ^ k < 2 ^ 16 = pow-lt h in ap (λ n. n % 65536) (one-mul (2 ^ k)) ∙ mod-eq-of-lt l
+shifted k h = let l : 2 ^ k < 2 ^ 16 = pow-lt h in ap (λ n. n % 65536) (one-mul (2 ^ k)) ∙ mod-eq_of_lt l
 
 -- the action clashes with no claim T next of the first e forms
-abbrev pub Allowed-below : Document → (ℕ → Bool) → ℕ → ℕ → Type 0
-Allowed-below d N e a = (h : ℕ) → h < e → (b f : ℕ) → Claims d N (form T h) → form-at d h ≡ Next b f → b ≡ a
+abbrev pub AllowedBelow : Document → (ℕ → Bool) → ℕ → ℕ → Type 0
+AllowedBelow d N e a = (h : ℕ) → h < e → (b f : ℕ) → Claims d N (form T h) → form_at d h ≡ Next b f → b ≡ a
 
-same-next : (f : Form) (a b g h : ℕ) → f ≡ Next a g → f ≡ Next b h → a ≡ b
-same-next f a b g h p q = cc
+same_next : (f : Form) (a b g h : ℕ) → f ≡ Next a g → f ≡ Next b h → a ≡ b
+same_next f a b g h p q = cc
 
 -- the next form bars no action
-pub allow-same : (d : Document) (N : ℕ → Bool) (e a m n : ℕ) → n ≡ m → Bit m a ↔ Allowed-below d N e a → ((b f : ℕ) → Claims d N (form T e) → form-at d e ≡ Next b f → ⊥) → Bit n a ↔ Allowed-below d N (e + 1) a
-allow-same d N e a m n same now none = (
-  λ bit h l b f k is. elim (cases-order h e) [
-    | inl q ↦ absurd (none b f (subst (λ v. Claims d N (form T v)) q k) (subst (λ v. form-at d v ≡ Next b f) q is))
-    | inr (inl q) ↦ now .0 (subst (λ v. Bit v a) same bit) h q b f k is
+pub allow_same : (d : Document) (N : ℕ → Bool) (e a m n : ℕ) → n ≡ m → Bit m a ↔ AllowedBelow d N e a → ((b f : ℕ) → Claims d N (form T e) → form_at d e ≡ Next b f → ⊥) → Bit n a ↔ AllowedBelow d N (e + 1) a
+allow_same d N e a m n same now none = (
+  λ bit h l b f k is. elim (cases_order h e) [
+    | inl q ↦ absurd (none b f (subst (λ v. Claims d N (form T v)) q k) (subst (λ v. form_at d v ≡ Next b f) q is))
+    | inr (inl q) ↦ now.0 (subst (λ v. Bit v a) same bit) h q b f k is
     | inr (inr q) ↦ absurd (omega arith)
   ],
-  λ all. subst (λ v. Bit v a) (sym same) (now .1 (λ h l. all h (omega arith))),
+  λ all. subst (λ v. Bit v a) (sym same) (now.1 (λ h l. all h (omega arith))),
 )
 
 -- the next form bars all actions but one
-pub allow-one : (d : Document) (N : ℕ → Bool) (e a m n b f : ℕ) → n ≡ bitAnd m (1 * 2 ^ b % 65536) → b < 16 → form-at d e ≡ Next b f → Claims d N (form T e) → Bit m a ↔ Allowed-below d N e a → Bit n a ↔ Allowed-below d N (e + 1) a
-allow-one d N e a m n b f same low next claimed now =
-    let both = bit-and m (2 ^ b) a in
-    let is : n ≡ bitAnd m (2 ^ b) = same ∙ ap (bitAnd m) (shifted b low) in (
-      λ bit h l c g k at. let parts = both .0 (subst (λ v. Bit v a) is bit) in
-          elim (cases-order h e) [
-            | inl q ↦ same-next (form-at d e) c b g f (subst (λ v. form-at d v ≡ Next c g) q at) next ∙ sym (bit-one b a .0 (parts .1))
-            | inr (inl q) ↦ now .0 (parts .0) h q c g k at
+pub allow_one : (d : Document) (N : ℕ → Bool) (e a m n b f : ℕ) → n ≡ bit_and m (1 * 2 ^ b % 65536) → b < 16 → form_at d e ≡ Next b f → Claims d N (form T e) → Bit m a ↔ AllowedBelow d N e a → Bit n a ↔ AllowedBelow d N (e + 1) a
+allow_one d N e a m n b f same low next claimed now =
+    let both = bit_of_and m (2 ^ b) a in
+    let is : n ≡ bit_and m (2 ^ b) = same ∙ ap (bit_and m) (shifted b low) in (
+      λ bit h l c g k at. let parts = both.0 (subst (λ v. Bit v a) is bit) in
+          elim (cases_order h e) [
+            | inl q ↦ same_next (form_at d e) c b g f (subst (λ v. form_at d v ≡ Next c g) q at) next ∙ sym ((bit_one b a).0 parts.1)
+            | inr (inl q) ↦ now.0 parts.0 h q c g k at
             | inr (inr q) ↦ absurd (omega arith)
           ],
-      λ all. subst (λ v. Bit v a) (sym is) (both .1 (now .1 (λ h l. all h (omega arith)), bit-one b a .1 (sym (all e (omega arith) b f claimed next)))),
+      λ all. subst (λ v. Bit v a) (sym is) (both.1 (now.1 (λ h l. all h (omega arith)), (bit_one b a).1 (sym (all e (omega arith) b f claimed next)))),
     )
 
 -- the first e forms claim the proposition with this sign
-abbrev pub Told-below : Document → (ℕ → Bool) → Sign → ℕ → ℕ → Type 0
-Told-below d N s e p = (h : ℕ) × (h < e) × Claims d N (form s h) × (form-at d h ≡ Prop p)
+abbrev pub ToldBelow : Document → (ℕ → Bool) → Sign → ℕ → ℕ → Type 0
+ToldBelow d N s e p = (h : ℕ) × (h < e) × Claims d N (form s h) × (form_at d h ≡ Prop p)
 
-pub tell-same : (d : Document) (N : ℕ → Bool) (s : Sign) (e p m n : ℕ) → n ≡ m → Bit m p ↔ Told-below d N s e p → (Claims d N (form s e) → form-at d e ≡ Prop p → ⊥) → Bit n p ↔ Told-below d N s (e + 1) p
-tell-same d N s e p m n same now none = (
-  λ bit. let t = now .0 (subst (λ v. Bit v p) same bit) in let l = t .1 in (t .0, omega arith, t .2, t .3),
-  λ t. elim (cases-order (t .0) e) [
-    | inl q ↦ absurd (none (subst (λ v. Claims d N (form s v)) q (t .2)) (subst (λ v. form-at d v ≡ Prop p) q (t .3)))
-    | inr (inl q) ↦ subst (λ v. Bit v p) (sym same) (now .1 (t .0, q, t .2, t .3))
-    | inr (inr q) ↦ absurd (let l = t .1 in omega arith)
+pub tell_same : (d : Document) (N : ℕ → Bool) (s : Sign) (e p m n : ℕ) → n ≡ m → Bit m p ↔ ToldBelow d N s e p → (Claims d N (form s e) → form_at d e ≡ Prop p → ⊥) → Bit n p ↔ ToldBelow d N s (e + 1) p
+tell_same d N s e p m n same now none = (
+  λ bit. let t = now.0 (subst (λ v. Bit v p) same bit) in let l = t.1 in (t.0, omega arith, t.2, t.3),
+  λ t. elim (cases_order t.0 e) [
+    | inl q ↦ absurd (none (subst (λ v. Claims d N (form s v)) q t.2) (subst (λ v. form_at d v ≡ Prop p) q t.3))
+    | inr (inl q) ↦ subst (λ v. Bit v p) (sym same) (now.1 (t.0, q, t.2, t.3))
+    | inr (inr q) ↦ absurd (let l = t.1 in omega arith)
   ],
 )
 
-pub tell-one : (d : Document) (N : ℕ → Bool) (s : Sign) (e p m n b : ℕ) → n ≡ bitOr m (1 * 2 ^ b % 65536) → b < 16 → form-at d e ≡ Prop b → Claims d N (form s e) → Bit m p ↔ Told-below d N s e p → Bit n p ↔ Told-below d N s (e + 1) p
-tell-one d N s e p m n b same low at claimed now =
-    let either = bit-or m (2 ^ b) p in
-    let is : n ≡ bitOr m (2 ^ b) = same ∙ ap (bitOr m) (shifted b low) in (
-      λ bit. elim (either .0 (subst (λ v. Bit v p) is bit)) [
-        | inl h ↦ let t = now .0 h in let l = t .1 in (t .0, omega arith, t .2, t .3)
-        | inr h ↦ (e, omega arith, claimed, at ∙ ap Prop (sym (bit-one b p .0 h)))
+pub tell_one : (d : Document) (N : ℕ → Bool) (s : Sign) (e p m n b : ℕ) → n ≡ bit_or m (1 * 2 ^ b % 65536) → b < 16 → form_at d e ≡ Prop b → Claims d N (form s e) → Bit m p ↔ ToldBelow d N s e p → Bit n p ↔ ToldBelow d N s (e + 1) p
+tell_one d N s e p m n b same low at claimed now =
+    let either = bit_of_or m (2 ^ b) p in
+    let is : n ≡ bit_or m (2 ^ b) = same ∙ ap (bit_or m) (shifted b low) in (
+      λ bit. elim (either.0 (subst (λ v. Bit v p) is bit)) [
+        | inl h ↦ let t = now.0 h in let l = t.1 in (t.0, omega arith, t.2, t.3)
+        | inr h ↦ (e, omega arith, claimed, at ∙ ap Prop (sym ((bit_one b p).0 h)))
       ],
-      λ t. subst (λ v. Bit v p) (sym is) (either .1 (elim (cases-order (t .0) e) [
-        | inl q ↦ inr (bit-one b p .1 (same-prop (form-at d e) p b (subst (λ v. form-at d v ≡ Prop p) q (t .3)) at))
-        | inr (inl q) ↦ inl (now .1 (t .0, q, t .2, t .3))
-        | inr (inr q) ↦ absurd (let l = t .1 in omega arith)
+      λ t. subst (λ v. Bit v p) (sym is) (either.1 (elim (cases_order t.0 e) [
+        | inl q ↦ inr ((bit_one b p).1 (same_prop (form_at d e) p b (subst (λ v. form_at d v ≡ Prop p) q t.3) at))
+        | inr (inl q) ↦ inl (now.1 (t.0, q, t.2, t.3))
+        | inr (inr q) ↦ absurd (let l = t.1 in omega arith)
       ])),
     )
 
 -- sixteen ones
-pub all-ones : (a : ℕ) → a < 16 → Bit 65535 a
-all-ones zero h = refl
-all-ones (suc zero) h = refl
-all-ones (suc (suc zero)) h = refl
-all-ones (suc (suc (suc zero))) h = refl
-all-ones (suc (suc (suc (suc zero)))) h = refl
-all-ones (suc (suc (suc (suc (suc zero))))) h = refl
-all-ones (suc (suc (suc (suc (suc (suc zero)))))) h = refl
-all-ones (suc (suc (suc (suc (suc (suc (suc zero))))))) h = refl
-all-ones (suc (suc (suc (suc (suc (suc (suc (suc zero)))))))) h = refl
-all-ones (suc (suc (suc (suc (suc (suc (suc (suc (suc zero))))))))) h = refl
-all-ones (suc (suc (suc (suc (suc (suc (suc (suc (suc (suc zero)))))))))) h = refl
-all-ones (suc (suc (suc (suc (suc (suc (suc (suc (suc (suc (suc zero))))))))))) h = refl
-all-ones (suc (suc (suc (suc (suc (suc (suc (suc (suc (suc (suc (suc zero)))))))))))) h = refl
-all-ones (suc (suc (suc (suc (suc (suc (suc (suc (suc (suc (suc (suc (suc zero))))))))))))) h = refl
-all-ones (suc (suc (suc (suc (suc (suc (suc (suc (suc (suc (suc (suc (suc (suc zero)))))))))))))) h = refl
-all-ones (suc (suc (suc (suc (suc (suc (suc (suc (suc (suc (suc (suc (suc (suc (suc zero))))))))))))))) h = refl
-all-ones (suc (suc (suc (suc (suc (suc (suc (suc (suc (suc (suc (suc (suc (suc (suc (suc a)))))))))))))))) h = absurd (omega arith)
+pub all_ones : (a : ℕ) → a < 16 → Bit 65535 a
+all_ones zero h = refl
+all_ones (suc zero) h = refl
+all_ones (suc (suc zero)) h = refl
+all_ones (suc (suc (suc zero))) h = refl
+all_ones (suc (suc (suc (suc zero)))) h = refl
+all_ones (suc (suc (suc (suc (suc zero))))) h = refl
+all_ones (suc (suc (suc (suc (suc (suc zero)))))) h = refl
+all_ones (suc (suc (suc (suc (suc (suc (suc zero))))))) h = refl
+all_ones (suc (suc (suc (suc (suc (suc (suc (suc zero)))))))) h = refl
+all_ones (suc (suc (suc (suc (suc (suc (suc (suc (suc zero))))))))) h = refl
+all_ones (suc (suc (suc (suc (suc (suc (suc (suc (suc (suc zero)))))))))) h = refl
+all_ones (suc (suc (suc (suc (suc (suc (suc (suc (suc (suc (suc zero))))))))))) h = refl
+all_ones (suc (suc (suc (suc (suc (suc (suc (suc (suc (suc (suc (suc zero)))))))))))) h = refl
+all_ones (suc (suc (suc (suc (suc (suc (suc (suc (suc (suc (suc (suc (suc zero))))))))))))) h = refl
+all_ones (suc (suc (suc (suc (suc (suc (suc (suc (suc (suc (suc (suc (suc (suc zero)))))))))))))) h = refl
+all_ones (suc (suc (suc (suc (suc (suc (suc (suc (suc (suc (suc (suc (suc (suc (suc zero))))))))))))))) h = refl
+all_ones (suc (suc (suc (suc (suc (suc (suc (suc (suc (suc (suc (suc (suc (suc (suc (suc a)))))))))))))))) h = absurd (omega arith)

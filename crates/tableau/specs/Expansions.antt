@@ -1,23 +1,17 @@
 -- Expansions of a list of claims, and the walk along the trail that reaches them.
-use mathlib.Core.Path.{_≡_}
-use mathlib.Core.Bool.{Bool, true}
-use mathlib.Core.List.{List}
-use Prim.Native.Nat.{ℕ, _+_, _<_, _≤_}
-use lib.ListN.{length, getD}
-use Rattle·std.specs.declared.option.Option.{Option}
-use Rattle·std.specs.Options.{Cases}
-use Rattle·document.specs.Documents.{Document}
-use Rattle·document.specs.declared.declared.Declared.{Declared}
-use Rattle·tableau·specs.Claims.{has, Same}
-use Rattle·tableau·specs.Calculus.{Calculus, calculus, Lists-given, Fine}
-use Rattle·tableau·specs.Numbers.{Shows}
-use Rattle·tableau·specs.Walk.{grown}
-use Rattle·tableau·specs.declared.claims.ClaimSet.{ClaimSet}
+use Rattle.std.specs.Prelude.{◌≡◌, ℕ, ◌+◌, ◌<◌, ◌≤◌, Bool, true, List, length, Option, MatchOption, slice_index}
+use Rattle.document.specs.Documents.{Document}
+use Rattle.document.specs.declared.declared.Declared.{Declared}
+use Rattle.tableau.specs.Claims.{has, Same}
+use Rattle.tableau.specs.Calculus.{Calculus, calculus, ListsGiven, Fine}
+use Rattle.tableau.specs.Numbers.{Shows}
+use Rattle.tableau.specs.Walk.{grown}
+use Rattle.tableau.specs.declared.claims.ClaimSet.{ClaimSet}
 
 -- the least set that has the claims of the start and, with each claim, what that gives by the alternative chosen for it
 pub data Closure (m : Calculus) (start : List ℕ) (choice : ℕ → Bool) : ℕ → Type 0 where
-  from-start : {c : ℕ} → has start c ≡ true → Closure m start choice c
-  from-claim : {c y : ℕ} → Closure m start choice c → m .gives c (choice c) y → Closure m start choice y
+  from_start : {c : ℕ} → has start c ≡ true → Closure m start choice c
+  from_claim : {c y : ℕ} → Closure m start choice c → m.gives c (choice c) y → Closure m start choice y
 
 pub record Expansion (m : Calculus) (start : List ℕ) (N : ℕ → Bool) : Type 0 where
   pub choice : ℕ → Bool
@@ -28,7 +22,7 @@ pub record Expansion (m : Calculus) (start : List ℕ) (N : ℕ → Bool) : Type
 -- from the cursor i and the trail t the walk comes to an end with the trail u
 pub data Reaches (m : Calculus) : ℕ → List ℕ → List ℕ → Type 0 where
   ends : {i : ℕ} {t : List ℕ} → length t ≤ i → Reaches m i t t
-  turns : {i : ℕ} {t u : List ℕ} (b : Bool) (xs : List ℕ) → Lists-given m (getD t i 0) b xs → i < length t → Reaches m (i + 1) (grown t xs) u → Reaches m i t u
+  turns : {i : ℕ} {t u : List ℕ} (b : Bool) (xs : List ℕ) → ListsGiven m (slice_index t i) b xs → i < length t → Reaches m (i + 1) (grown t xs) u → Reaches m i t u
 
 -- N is reached with no clash
 abbrev pub Reached : Calculus → ℕ → List ℕ → (ℕ → Bool) → Type 0
@@ -36,11 +30,11 @@ Reached m i t N = (u : List ℕ) × Reaches m i t u × Fine m (has u) × Same N 
 
 -- what each of the first i claims of t gives by the choice is in t
 abbrev pub Done : Calculus → (ℕ → Bool) → ℕ → List ℕ → Type 0
-Done m choice i t = (j : ℕ) → j < i → (y : ℕ) → m .gives (getD t j 0) (choice (getD t j 0)) y → has t y ≡ true
+Done m choice i t = (j : ℕ) → j < i → (y : ℕ) → m.gives (slice_index t j) (choice (slice_index t j)) y → has t y ≡ true
 
 -- N is an expansion of t by a choice that fits the first i claims
 abbrev pub Leads : Calculus → ℕ → List ℕ → (ℕ → Bool) → Type 0
-Leads m i t N = (e : Expansion m t N) × Done m (e .choice) i t
+Leads m i t N = (e : Expansion m t N) × Done m e.choice i t
 
 -- no set without a clash has all claims of t
 abbrev pub Stuck : Calculus → List ℕ → Type 0
@@ -48,4 +42,4 @@ Stuck m t = (N : ℕ → Bool) → Fine m N → ((c : ℕ) → has t c ≡ true 
 
 -- what adding the claims xs to claims t that do not clash answers: that the whole clashes, or not
 abbrev pub Adding : Declared → ℕ → List ℕ → List ℕ → Option ClaimSet → Type 0
-Adding held x t xs r = (d : Document) → Shows held d → Fine (calculus d x) (has t) → Cases r (Stuck (calculus d x) (grown t xs)) (λ _. Fine (calculus d x) (has (grown t xs)))
+Adding held x t xs r = (d : Document) → Shows held d → Fine (calculus d x) (has t) → MatchOption r (Stuck (calculus d x) (grown t xs)) (λ _. Fine (calculus d x) (has (grown t xs)))

@@ -1,19 +1,18 @@
 -- How far a graph has grown, as numbers.
-use mathlib.Core.Path.{_≡_}
-use Prim.Native.Nat.{ℕ, _+_, _≤_}
-use Rattle·tableau·specs.Tables.{Room}
-use Rattle·tableau·specs.declared.grow.Grown.{Grown}
+use Rattle.std.specs.Prelude.{◌≡◌, ℕ, ◌+◌, ◌≤◌}
+use Rattle.tableau.specs.Tables.{Room}
+use Rattle.tableau.specs.declared.grow.Grown.{Grown}
 
 -- the places in use lie in the tables, the first nodes among them; before the first unit none is in use; at most one unit more than nodes
 pub record Sound (nodes edges : ℕ) (g : Grown) : Type 0 where
-  pub room : Room nodes edges (g .used)
-  pub firsts : g .first ≤ g .used .nodes
-  pub worked : g .units ≤ g .used .nodes + 1
-  pub unused : g .units ≡ 0 → (g .used .nodes ≡ 0) × (g .used .edges ≡ 0)
+  pub room : Room nodes edges g.used
+  pub firsts : g.first ≤ g.used.nodes
+  pub worked : g.units ≤ g.used.nodes + 1
+  pub unused : g.units ≡ 0 → (g.used.nodes ≡ 0) × (g.used.edges ≡ 0)
 
 -- one unit later
 pub record Later (nodes edges : ℕ) (before after : Grown) : Type 0 where
   pub sound : Sound nodes edges after
-  pub unit : after .units ≡ before .units + 1
-  pub more-nodes : before .used .nodes ≤ after .used .nodes
-  pub more-edges : before .used .edges ≤ after .used .edges
+  pub unit : after.units ≡ before.units + 1
+  pub more_nodes : before.used.nodes ≤ after.used.nodes
+  pub more_edges : before.used.edges ≤ after.used.edges

@@ -1,11 +1,7 @@
 -- The trail of claims: how it grows, and that it tells of the same claims as the set.
-use mathlib.Core.Path.{_≡_}
-use mathlib.Core.Bool.{Bool, true, false, cond}
-use mathlib.Core.List.{List, [], _∷_, _++_}
-use Prim.Native.Nat.{ℕ, zero, suc, _+_, _<_, _≤_}
-use lib.ListN.{length, getD, take}
-use Rattle·tableau·specs.Claims.{member, has, Same}
-use Rattle·tableau·specs.declared.trail.Trail.{Trail}
+use Rattle.std.specs.Prelude.{◌≡◌, ℕ, zero, suc, ◌+◌, ◌<◌, ◌≤◌, Bool, true, false, cond, List, [], ◌∷◌, ◌++◌, length, take, slice_index}
+use Rattle.tableau.specs.Claims.{member, has, Same}
+use Rattle.tableau.specs.declared.trail.Trail.{Trail}
 
 -- the claims, and those of the second list that are not there yet
 abbrev pub grown : List ℕ → List ℕ → List ℕ
@@ -19,11 +15,11 @@ room t (suc n) = cond (has t n) 0 1 + room t n
 
 -- no claim stands twice
 abbrev pub Fresh : List ℕ → Type 0
-Fresh t = (i : ℕ) → i < length t → has (take i t) (getD t i 0) ≡ false
+Fresh t = (i : ℕ) → i < length t → has (take i t) (slice_index t i) ≡ false
 
 -- the claims on the trail
 abbrev pub on : Trail → List ℕ
-on trail = take (trail .len) (trail .claims)
+on trail = take trail.len trail.claims
 
 -- the set's words and the list t, which the trail holds, tell of the same claims
 pub record Stands (words t : List ℕ) (len : ℕ) : Type 0 where

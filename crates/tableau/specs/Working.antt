@@ -1,25 +1,22 @@
 -- Working units: what each enters, how many fit, and what growing reports.
-use mathlib.Core.Path.{_≡_}
-use mathlib.Core.List.{List, []}
-use Prim.Native.Nat.{ℕ, zero, suc, _+_, _<_, _≤_, min}
-use native.Mathlib.Nat.{min-le-right}
-use lib.ListN.{length}
-use Rattle·document.specs.Documents.{Document}
-use Rattle·tableau·specs.Graphs.{First-node, Lists, Tables, Opens}
-use Rattle·tableau·specs.declared.grow.Growth.{Growth as Answered}
-use Rattle·tableau·specs.declared.grow.Report.{Report as Told}
-use Rattle·tableau·specs.declared.grow.Report.the-variants.{Complete, Full, More}
+use Rattle.std.specs.Prelude.{◌≡◌, ℕ, zero, suc, ◌+◌, ◌<◌, ◌≤◌, min, List, [], length}
+use Rattle.std.proofs.Math.Nat.{min-le_right}
+use Rattle.document.specs.Documents.{Document}
+use Rattle.tableau.specs.Graphs.{FirstNode, Lists, Tables, Opens}
+use Rattle.tableau.specs.declared.grow.Growth.{Growth as Answered}
+use Rattle.tableau.specs.declared.grow.Report.{Report as Told}
+use Rattle.tableau.specs.declared.grow.Report.TheVariants.{Complete, Full, More}
 
 -- the places of the two tables, counted up to their limits
 pub record Places : Type 0 where
   pub nodes : ℕ
   pub edges : ℕ
-  pub few-nodes : nodes ≤ 4096
-  pub few-edges : edges ≤ 65536
+  pub few_nodes : nodes ≤ 4096
+  pub few_edges : edges ≤ 65536
 
 -- the places of tables of these lengths
-abbrev pub places-of : ℕ → ℕ → Places
-places-of n m = record { nodes = min n 4096; edges = min m 65536; few-nodes = min-le-right n 4096; few-edges = min-le-right m 65536 }
+abbrev pub places_of : ℕ → ℕ → Places
+places_of n m = record { nodes = min n 4096; edges = min m 65536; few_nodes = min-le_right n 4096; few_edges = min-le_right m 65536 }
 
 abbrev pub empty : Tables
 empty = record { nodes = []; edges = [] }
@@ -32,42 +29,42 @@ pub record Growth : Type 0 where
   pub report : Report
 
 -- the report that an answer of grow tells, with the units worked
-abbrev pub report-of : Told → Report
-report-of Complete = complete
-report-of Full = full
-report-of More = more
+abbrev pub report_of : Told → Report
+report_of Complete = complete
+report_of Full = full
+report_of More = more
 
-abbrev pub growth-of : Answered → Growth
-growth-of g = record { units = g .units; report = report-of (g .report) }
+abbrev pub growth_of : Answered → Growth
+growth_of g = record { units = g.units; report = report_of g.report }
 
 -- unit number k, counted from 0: the first enters the first nodes, each other opens a node
-abbrev pub Unit-of : Document → ℕ → Tables → Tables → Type 0
-Unit-of d zero t u = (t ≡ empty) × Lists (u .nodes) (First-node d) × (u .edges ≡ [])
-Unit-of d (suc k) t u = Opens d k t u
+abbrev pub UnitOf : Document → ℕ → Tables → Tables → Type 0
+UnitOf d zero t u = (t ≡ empty) × Lists u.nodes (FirstNode d) × (u.edges ≡ [])
+UnitOf d (suc k) t u = Opens d k t u
 
 -- units k, k + 1, .., one after another
 pub data Units (d : Document) : ℕ → ℕ → Tables → Tables → Type 0 where
   none : {k : ℕ} {t : Tables} → Units d k 0 t t
-  one-more : {k n : ℕ} {t u v : Tables} → Units d k n t u → Unit-of d (k + n) u v → Units d k (suc n) t v
+  one_more : {k n : ℕ} {t u v : Tables} → Units d k n t u → UnitOf d (k + n) u v → Units d k (suc n) t v
 
 abbrev pub Fits : Places → Tables → Type 0
-Fits p t = (length (t .nodes) ≤ p .nodes) × (length (t .edges) ≤ p .edges)
+Fits p t = (length t.nodes ≤ p.nodes) × (length t.edges ≤ p.edges)
 
 -- no unit is left after k
-abbrev pub None-left : ℕ → Tables → Type 0
-None-left k t = k ≡ suc (length (t .nodes))
+abbrev pub NoneLeft : ℕ → Tables → Type 0
+NoneLeft k t = k ≡ suc (length t.nodes)
 
 -- complete: no unit is left; full: the budget is not spent, and the next unit does not fit; more: the budget is spent
 abbrev pub Reports : Places → Document → ℕ → Tables → ℕ → Growth → Type 0
-Reports p d k u b g = elim (g .report) [
-  | complete ↦ None-left k u
-  | full ↦ (None-left k u → ⊥) × (g .units < b) × ((v : Tables) → Unit-of d k u v → Fits p v → ⊥)
-  | more ↦ (None-left k u → ⊥) × (g .units ≡ b)
+Reports p d k u b g = elim g.report [
+  | complete ↦ NoneLeft k u
+  | full ↦ (NoneLeft k u → ⊥) × (g.units < b) × ((v : Tables) → UnitOf d k u v → Fits p v → ⊥)
+  | more ↦ (NoneLeft k u → ⊥) × (g.units ≡ b)
 ]
 
 -- growing with a budget, from the tables t after k units to the tables u
 pub record Grows (p : Places) (d : Document) (k : ℕ) (t : Tables) (b : ℕ) (g : Growth) (u : Tables) : Type 0 where
-  pub worked : Units d k (g .units) t u
-  pub within : g .units ≤ b
+  pub worked : Units d k g.units t u
+  pub within : g.units ≤ b
   pub fits : Fits p u
-  pub reports : Reports p d (k + g .units) u b g
+  pub reports : Reports p d (k + g.units) u b g

@@ -1,14 +1,11 @@
 // Claims of a node, and their numbers. A form that is no until has two numbers, T and F; an until with m states has six
 // runs of m: T until with label 0 and 1, F until, T step with label 0 and 1, F step.
-ghost use mathlib.Core.Path.{_≡_};
-ghost use mathlib.Core.Bool.{true, cond};
-ghost use Prim.Native.Nat.{ℕ, _+_, _*_, _<_, _≤_};
-ghost use lib.ListN.{length};
-ghost use Rattle·std.specs.Options.{Cases};
-ghost use Rattle·document.specs.Documents.{Document as Meaning, form-at, weight-of};
-ghost use Rattle·tableau·specs.Graphs.{Sign, Sign.T, Sign.F, Claim as Claimed, form};
-ghost use Rattle·tableau·specs.Meant.{meant};
-ghost use Rattle·tableau·specs.Numbers.{Shows, State-of, Claim-of, Claim-at, number-of, speaks-of, place-in, is-until, states};
+ghost use Rattle.std.specs.Prelude.{◌≡◌, ℕ, ◌+◌, ◌*◌, ◌<◌, ◌≤◌, true, length, if◌then◌else◌, MatchOption, ◌≢◌};
+ghost use Rattle.document.specs.Documents.{Document as Meaning, form_at, weight_of};
+ghost use Rattle.tableau.specs.Graphs.{Sign, Sign.T, Sign.F, Claim as Claimed, form};
+ghost use Rattle.tableau.specs.Meant.{meant};
+ghost use Rattle.tableau.specs.Numbers.{Shows, StateOf, ClaimOf, ClaimAt, number_of, speaks_of, place_in, is_until, states};
+
 use document::declared::Declared;
 use document::form::Form;
 
@@ -27,8 +24,8 @@ pub enum Claim {
 
 // How many states the automaton of a form has: 1 for a form that is no until.
 pub fn states_of(declared: &Declared, e: u8) -> u16
-    ensures few { λ r. ⌜ (1 ≤ r) × (r ≤ 16) ⌝ }
-    ensures is { λ r. ⌜ ((d : Meaning) → Shows (now (declared .entry)) d → e < length (d .forms) → is-until (form-at d e) ≡ true → r ≡ states d e) ⌝ }
+    ensures few { (1 ≤ result) × (result ≤ 16) }
+    ensures is { (d : Meaning) → Shows declared.now d → e < length d.forms → is_until (form_at d e) ≡ true → result ≡ states d e }
 {
     match declared.form(e as usize) {
         Form::Until(_, p, _) => declared.row(p).states() as u16,
@@ -38,7 +35,7 @@ pub fn states_of(declared: &Declared, e: u8) -> u16
 
 // That a form, which is no until, is true or false.
 pub fn signed(e: u8, sign: bool) -> Claim
-    ensures { λ r. ⌜ meant r ≡ form (cond sign T F) e ⌝ }
+    ensures { meant result ≡ form (if sign then T else F) e }
 {
     if sign {
         Claim::True(e)
@@ -49,7 +46,7 @@ pub fn signed(e: u8, sign: bool) -> Claim
 
 // The form that a claim speaks of.
 fn speaks_of(claim: Claim) -> u8
-    ensures { λ r. ⌜ r ≡ speaks-of (meant claim) ⌝ }
+    ensures { result ≡ speaks_of (meant claim) }
 {
     match claim {
         Claim::True(e) | Claim::False(e) => e,
@@ -60,17 +57,17 @@ fn speaks_of(claim: Claim) -> u8
 
 // The place of state q in run number `run` of an until.
 fn in_run(declared: &Declared, e: u8, run: u16, q: u8) -> u16
-    requires { ⌜ run < 6 ⌝ }
-    ensures bound { λ r. ⌜ r < 351 ⌝ }
-    ensures is { λ r. ⌜ ((d : Meaning) → Shows (now (declared .entry)) d → State-of d e q → r ≡ run * states d e + q) ⌝ }
+    requires { run < 6 }
+    ensures bound { result < 351 }
+    ensures is { (d : Meaning) → Shows declared.now d → StateOf d e q → result ≡ run * states d e + q }
 {
     run * states_of(declared, e) + q as u16
 }
 
 // The place of a claim among those of its form.
 fn place_in(declared: &Declared, claim: Claim) -> u16
-    ensures bound { λ r. ⌜ r < 351 ⌝ }
-    ensures is { λ r. ⌜ ((d : Meaning) → Shows (now (declared .entry)) d → Claim-of d (meant claim) → r ≡ place-in d (meant claim)) ⌝ }
+    ensures bound { result < 351 }
+    ensures is { (d : Meaning) → Shows declared.now d → ClaimOf d (meant claim) → result ≡ place_in d (meant claim) }
 {
     match claim {
         Claim::True(_) => 0,
@@ -84,7 +81,7 @@ fn place_in(declared: &Declared, claim: Claim) -> u16
 
 // The number of a claim of the document.
 pub fn number(declared: &Declared, claim: Claim) -> u8
-    ensures { λ r. ⌜ ((d : Meaning) → Shows (now (declared .entry)) d → Claim-of d (meant claim) → r ≡ number-of d (meant claim)) ⌝ }
+    ensures { (d : Meaning) → Shows declared.now d → ClaimOf d (meant claim) → result ≡ number_of d (meant claim) }
 {
     let base = declared.base(speaks_of(claim) as usize) % 256;
     ((base + place_in(declared, claim)) % 256) as u8
@@ -92,8 +89,8 @@ pub fn number(declared: &Declared, claim: Claim) -> u8
 
 // The claim of an until's number, counted from its first.
 fn until_claim(e: u8, place: u16, count: u16) -> Claim
-    requires { ⌜ 1 ≤ count ⌝ }
-    ensures { λ r. ⌜ ((d : Meaning) → State-of d e 0 → count ≡ states d e → count ≤ 16 → place < 6 * count → Claim-at d e place (meant r)) ⌝ }
+    requires { 1 ≤ count }
+    ensures { (d : Meaning) → StateOf d e 0 → count ≡ states d e → count ≤ 16 → place < 6 * count → ClaimAt d e place (meant result) }
 {
     let q = (place % count % 16) as u8;
     match place / count {
@@ -108,7 +105,7 @@ fn until_claim(e: u8, place: u16, count: u16) -> Claim
 
 // The claim of a number counted from a form's first.
 fn claim_in(declared: &Declared, e: u8, place: u16) -> Claim
-    ensures { λ r. ⌜ ((d : Meaning) → Shows (now (declared .entry)) d → e < length (d .forms) → place < weight-of (d .progs) (form-at d e) → Claim-at d e place (meant r)) ⌝ }
+    ensures { (d : Meaning) → Shows declared.now d → e < length d.forms → place < weight_of d.progs (form_at d e) → ClaimAt d e place (meant result) }
 {
     match declared.form(e as usize) {
         Form::Until(_, p, _) => until_claim(e, place, declared.row(p).states() as u16),
@@ -124,7 +121,7 @@ fn claim_in(declared: &Declared, e: u8, place: u16) -> Claim
 
 // The claim of a number, if it is one of the document's.
 pub fn claim_of(declared: &Declared, c: u8) -> Option<Claim>
-    ensures { λ r. ⌜ ((d : Meaning) → Shows (now (declared .entry)) d → Cases r ((k : Claimed) → Claim-of d k → number-of d k ≡ c → ⊥) (λ m. Claim-of d (meant m) × (number-of d (meant m) ≡ c))) ⌝ }
+    ensures { (d : Meaning) → Shows declared.now d → MatchOption result ((k : Claimed) → ClaimOf d k → number_of d k ≢ c) (λ m. ClaimOf d (meant m) × (number_of d (meant m) ≡ c)) }
 {
     for e in 0..declared.forms().count() {
         let base = declared.base(e);

@@ -1,10 +1,6 @@
 // Sets of claims: a bit for each of the 256.
-ghost use mathlib.Core.Path.{_≡_};
-ghost use mathlib.Core.Bool.{true, false, _||_};
-ghost use Prim.Native.Nat.{ℕ};
-ghost use lib.Dec.{eqb};
-ghost use Rattle·std.specs.Orderings.{When};
-ghost use Rattle·tableau·specs.Claims.{member, Same};
+ghost use Rattle.std.specs.Prelude.{◌≡◌, ℕ, true, false, ◌||◌, MatchBool, ◌==◌};
+ghost use Rattle.tableau.specs.Claims.{member, Same};
 
 #[derive(Clone, Copy)]
 pub struct ClaimSet {
@@ -13,19 +9,19 @@ pub struct ClaimSet {
 
 impl ClaimSet {
     pub fn empty() -> ClaimSet
-        ensures { λ r. ⌜ ((x : ℕ) → member (r .words) x ≡ false) ⌝ }
+        ensures { (x : ℕ) → member result.words x ≡ false }
     {
         ClaimSet { words: [0; 4] }
     }
 
     pub fn contains(&self, c: u8) -> bool
-        ensures { λ r. ⌜ r ≡ member (now (self .entry) .words) c ⌝ }
+        ensures { result ≡ member self.now.words c }
     {
         (self.words[(c / 64) as usize] >> (c % 64)) & 1 == 1
     }
 
     pub fn with(self, c: u8) -> ClaimSet
-        ensures { λ r. ⌜ ((x : ℕ) → member (r .words) x ≡ (member (self .words) x || eqb c x)) ⌝ }
+        ensures { (x : ℕ) → member result.words x ≡ (member self.words x || c == x) }
     {
         let mut words = self.words;
         let k = (c / 64) as usize;
@@ -34,7 +30,7 @@ impl ClaimSet {
     }
 
     pub fn same(&self, other: &ClaimSet) -> bool
-        ensures { λ r. ⌜ When r (Same (member (now (self .entry) .words)) (member (now (other .entry) .words))) (Same (member (now (self .entry) .words)) (member (now (other .entry) .words)) → ⊥) ⌝ }
+        ensures { MatchBool result (Same (member self.now.words) (member other.now.words)) (Same (member self.now.words) (member other.now.words) → ⊥) }
     {
         for k in 0..4 {
             if self.words[k] != other.words[k] {

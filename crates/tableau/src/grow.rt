@@ -1,22 +1,15 @@
 // Growing: units, one after another, while the budget lasts and the tables have room.
-ghost use mathlib.Core.Path.{_≡_};
-ghost use Prim.Native.Nat.{ℕ, _+_, _-_, _<_, _≤_};
-ghost use lib.Dec.{ltb};
-ghost use lib.ListN.{length};
-ghost use Rattle·std.specs.Options.{Cases};
-ghost use Rattle·tableau·specs.Growing.{Sound, Later};
-ghost use Rattle·document.specs.Documents.{Document as Meaning};
-ghost use Rattle·tableau·specs.Units.{First-unit, Next-unit, next-phase};
-ghost use Rattle·tableau·specs.UnitsHeld.{Works-unit, Under-way, Grew};
-use crate::node::Edge;
-use crate::node::Node;
-use crate::node::Used;
-use crate::open::enter_first;
-use crate::open::enter_successors;
+ghost use Rattle.std.specs.Prelude.{◌≡◌, ℕ, ◌+◌, ◌-◌, ◌<◌, ◌≤◌, length, IfSome, nat_lt};
+ghost use Rattle.tableau.specs.Growing.{Sound, Later};
+ghost use Rattle.document.specs.Documents.{Document as Meaning};
+ghost use Rattle.tableau.specs.Units.{FirstUnit, NextUnit, next_phase};
+ghost use Rattle.tableau.specs.UnitsHeld.{WorksUnit, UnderWay, Grew};
+
+use crate::node::{Edge, Node, Used};
+use crate::open::{enter_first, enter_successors};
 use crate::rules::Rules;
 use crate::trail::Trail;
-use crate::unit::Opening;
-use crate::unit::Origin;
+use crate::unit::{Opening, Origin};
 use document::declared::Declared;
 use document::document::Document;
 
@@ -31,7 +24,7 @@ pub struct Grown {
 
 impl Grown {
     pub fn nothing() -> Grown
-        ensures { λ r. ⌜ (r .units ≡ 0) × (r .first ≡ 0) × (r .used .nodes ≡ 0) × (r .used .edges ≡ 0) ⌝ }
+        ensures { (result.units ≡ 0) × (result.first ≡ 0) × (result.used.nodes ≡ 0) × (result.used.edges ≡ 0) }
     {
         Grown {
             units: 0,
@@ -42,7 +35,7 @@ impl Grown {
 
     // Whether no unit is left.
     pub fn is_complete(&self) -> bool
-        ensures { λ r. ⌜ r ≡ ltb (now (self .entry) .used .nodes) (now (self .entry) .units) ⌝ }
+        ensures { result ≡ nat_lt self.now.used.nodes self.now.units }
     {
         self.units > self.used.nodes
     }
@@ -67,8 +60,8 @@ pub struct Growth {
 
 // The unit that enters the first nodes. None where they do not fit.
 fn first_unit(document: &Document, nodes: &mut [Node], edges: &mut [Edge]) -> Option<Grown>
-    ensures sound { λ r. ⌜ Cases r (Unit {0}) (λ g. Sound (length (now (nodes .entry))) (length (now (edges .entry))) g × (g .units ≡ 1)) ⌝ }
-    ensures entered { λ r. ⌜ First-unit (now (document .entry) .declared) (now (document .entry) .goal) (now (nodes .entry)) (now (edges .entry)) (now (nodes .exit)) (now (edges .exit)) r ⌝ }
+    ensures sound { IfSome result (λ g. Sound (length nodes.old) (length edges.old) g × (g.units ≡ 1)) }
+    ensures entered { FirstUnit document.now.declared document.now.goal nodes.old edges.old nodes.new edges.new result }
 {
     let declared = document.declared();
     let opening = Opening {
@@ -91,7 +84,7 @@ fn first_unit(document: &Document, nodes: &mut [Node], edges: &mut [Edge]) -> Op
 
 // The phase of a node's successors: it turns where the node is closing.
 fn phase_after(node: &Node) -> u8
-    ensures { λ r. ⌜ r ≡ next-phase (now (node .entry)) ⌝ }
+    ensures { result ≡ next_phase node.now }
 {
     if !node.closing {
         return node.phase;
@@ -106,10 +99,10 @@ fn next_unit(
     edges: &mut [Edge],
     grown: Grown,
 ) -> Option<Grown>
-    requires sound { ⌜ Sound (length (now nodes)) (length (now edges)) grown ⌝ }
-    requires due { ⌜ 1 ≤ grown .units ⌝ ∗ ⌜ grown .units ≤ grown .used .nodes ⌝ }
-    ensures later { λ r. ⌜ Cases r (Unit {0}) (λ g. Later (length (now (nodes .entry))) (length (now (edges .entry))) grown g) ⌝ }
-    ensures entered { λ r. ⌜ Next-unit (now (document .entry) .declared) (grown .units - 1) (now (nodes .entry)) (now (edges .entry)) grown (now (nodes .exit)) (now (edges .exit)) r ⌝ }
+    requires sound { Sound (length nodes.old) (length edges.old) grown }
+    requires due { (1 ≤ grown.units) × (grown.units ≤ grown.used.nodes) }
+    ensures later { IfSome result (λ g. Later (length nodes.old) (length edges.old) grown g) }
+    ensures entered { NextUnit document.now.declared (grown.units - 1) nodes.old edges.old grown nodes.new edges.new result }
 {
     let declared = document.declared();
     let k = grown.units - 1;
@@ -140,10 +133,10 @@ fn next_unit(
 
 // The next unit. None where it does not fit.
 fn unit(document: &Document, nodes: &mut [Node], edges: &mut [Edge], grown: Grown) -> Option<Grown>
-    requires sound { ⌜ Sound (length (now nodes)) (length (now edges)) grown ⌝ }
-    requires due { ⌜ grown .units ≤ grown .used .nodes ⌝ }
-    ensures later { λ r. ⌜ Cases r (Unit {0}) (λ g. Later (length (now (nodes .entry))) (length (now (edges .entry))) grown g) ⌝ }
-    ensures works { λ r. ⌜ Works-unit (now (document .entry)) (now (nodes .entry)) (now (edges .entry)) grown (now (nodes .exit)) (now (edges .exit)) r ⌝ }
+    requires sound { Sound (length nodes.old) (length edges.old) grown }
+    requires due { grown.units ≤ grown.used.nodes }
+    ensures later { IfSome result (λ g. Later (length nodes.old) (length edges.old) grown g) }
+    ensures works { WorksUnit document.now nodes.old edges.old grown nodes.new edges.new result }
 {
     if grown.units == 0 {
         first_unit(document, nodes, edges)
@@ -160,10 +153,10 @@ pub fn grow(
     grown: Grown,
     budget: u64,
 ) -> (Grown, Growth)
-    requires sound { ⌜ Sound (length (now nodes)) (length (now edges)) grown ⌝ }
-    ensures sound { λ r. ⌜ Sound (length (now (nodes .entry))) (length (now (edges .entry))) (r .0) ⌝ }
-    ensures within { λ r. ⌜ r .1 .units ≤ budget ⌝ }
-    ensures grew { λ r. ⌜ ((d : Meaning) → Under-way (now (document .entry)) d (now (nodes .entry)) (now (edges .entry)) grown → Grew d (now (nodes .entry)) (now (edges .entry)) grown budget (now (nodes .exit)) (now (edges .exit)) (r .0) (r .1)) ⌝ }
+    requires sound { Sound (length nodes.old) (length edges.old) grown }
+    ensures sound { Sound (length nodes.old) (length edges.old) result.0 }
+    ensures within { result.1.units ≤ budget }
+    ensures grew { (d : Meaning) → UnderWay document.now d nodes.old edges.old grown → Grew d nodes.old edges.old grown budget nodes.new edges.new result.0 result.1 }
 {
     let mut now = grown;
     let mut units = 0;

@@ -1,10 +1,7 @@
 // The nodes and edges of a goal's graph, as they lie in the two tables.
-ghost use mathlib.Core.Path.{_≡_};
-ghost use Prim.Native.Nat.{ℕ, _+_, _<_, _≤_};
-ghost use lib.ListN.{length};
-ghost use Rattle·std.specs.Options.{Cases};
-ghost use Rattle·std.specs.Orderings.{Decides};
-ghost use Rattle·tableau·specs.Nodes.{SameNode, nodeAt, edgeAt};
+ghost use Rattle.std.specs.Prelude.{◌≡◌, ℕ, ◌+◌, ◌<◌, ◌≤◌, length, Decides, MatchOption};
+ghost use Rattle.tableau.specs.Nodes.{SameNode, node_at, edge_at};
+
 use crate::claims::ClaimSet;
 
 // Places of the tables that are used at most.
@@ -43,7 +40,7 @@ impl Node {
 
     // Whether the two are the same node of the graph.
     pub fn same(&self, other: &Node) -> bool
-        ensures { λ r. ⌜ Decides r (SameNode (now (self .entry)) (now (other .entry))) ⌝ }
+        ensures { Decides result (SameNode self.now other.now) }
     {
         self.action == other.action
             && self.phase == other.phase
@@ -74,8 +71,8 @@ pub struct Used {
 
 // The number of the node among the first `count`.
 pub fn find_node(nodes: &[Node], count: usize, node: &Node) -> Option<usize>
-    requires { ⌜ count ≤ length (now nodes) ⌝ }
-    ensures { λ r. ⌜ Cases r ((k : ℕ) → k < count → SameNode (nodeAt (now (nodes .entry)) k) (now (node .entry)) → ⊥) (λ i. (i < count) × SameNode (nodeAt (now (nodes .entry)) i) (now (node .entry))) ⌝ }
+    requires { count ≤ length nodes.now }
+    ensures { MatchOption result ((k : ℕ) → k < count → SameNode (node_at nodes.now k) node.now → ⊥) (λ i. (i < count) × SameNode (node_at nodes.now i) node.now) }
 {
     for i in 0..count {
         if nodes[i].same(node) {
@@ -87,8 +84,8 @@ pub fn find_node(nodes: &[Node], count: usize, node: &Node) -> Option<usize>
 
 // Whether one of the edges from place `first` on, below `count`, leads to the node.
 pub fn has_edge_to(edges: &[Edge], first: usize, count: usize, to: u16) -> bool
-    requires { ⌜ count ≤ length (now edges) ⌝ }
-    ensures { λ r. ⌜ Decides r ((k : ℕ) × (first ≤ k) × (k < count) × (edgeAt (now (edges .entry)) k .to ≡ to)) ⌝ }
+    requires { count ≤ length edges.now }
+    ensures { Decides result ((k : ℕ) × (first ≤ k) × (k < count) × ((edge_at edges.now k).to ≡ to)) }
 {
     for i in first..count {
         if edges[i].to == to {

@@ -1,36 +1,25 @@
 // Opening a node: what it hands on to its successors, with a target chosen for each T step.
-ghost use mathlib.Core.Bool.{true};
-ghost use mathlib.Core.Path.{_≡_};
-ghost use Prim.Native.Nat.{ℕ, _+_, _<_, _≤_};
-ghost use lib.ListN.{length, take};
-ghost use Rattle·std.specs.Options.{Cases};
-ghost use Rattle·document.specs.Documents.{Document as Meaning, form-at};
-ghost use Rattle·document.specs.declared.form.Form.the-variants.{Next};
-ghost use Rattle·tableau·specs.Calculus.{calculus, Fine};
-ghost use Rattle·tableau·specs.Claims.{has};
-ghost use Rattle·tableau·specs.Graphs.{Sign};
-ghost use Rattle·tableau·specs.Handing.{Any, To, From, Operand, By, Hands};
-ghost use Rattle·tableau·specs.Numbers.{Shows, State-of, is-until};
-ghost use Rattle·tableau·specs.Successions.{Handed};
-ghost use Rattle·tableau·specs.Units.{Chooses, Tries, Enters-first, Enters-successors};
-ghost use Rattle·tableau·specs.Walk.{grown, on, Stands};
-ghost use Rattle·tableau·specs.Tables.{Room, More};
-use crate::claim::Claim;
-use crate::claim::number;
-use crate::claim::states_of;
+ghost use Rattle.std.specs.Prelude.{◌≡◌, ℕ, ◌+◌, ◌<◌, ◌≤◌, true, length, IfSome};
+ghost use Rattle.document.specs.Documents.{Document as Meaning, form_at};
+ghost use Rattle.document.specs.declared.form.Form.TheVariants.{Next};
+ghost use Rattle.tableau.specs.Calculus.{calculus, Fine};
+ghost use Rattle.tableau.specs.Claims.{has};
+ghost use Rattle.tableau.specs.Graphs.{Sign};
+ghost use Rattle.tableau.specs.Handing.{Any, To, From, Operand, By, Hands};
+ghost use Rattle.tableau.specs.Numbers.{Shows, StateOf, is_until};
+ghost use Rattle.tableau.specs.Successions.{Handed};
+ghost use Rattle.tableau.specs.Units.{Chooses, Tries, EntersFirst, EntersSuccessors};
+ghost use Rattle.tableau.specs.Walk.{grown, on, Stands};
+ghost use Rattle.tableau.specs.Tables.{Room, More};
+
+use crate::claim::{Claim, number, states_of};
 use crate::claims::ClaimSet;
-use crate::node::Edge;
-use crate::node::Node;
-use crate::node::Used;
+use crate::node::{Edge, Node, Used};
 use crate::rules::Rules;
-use crate::trail::Trail;
-use crate::trail::Tried;
-use crate::true_step::TrueStep;
-use crate::true_step::next_step;
-use crate::true_step::targets;
+use crate::trail::{Trail, Tried};
+use crate::true_step::{TrueStep, next_step, targets};
 use crate::unit::Opening;
-use crate::walk::add;
-use crate::walk::expand;
+use crate::walk::{add, expand};
 use document::form::Form;
 
 // Adds F until for each state that a claim F step of the form reaches from state q. None at a clash.
@@ -42,9 +31,9 @@ fn add_targets(
     set: ClaimSet,
     trail: &mut Trail,
 ) -> Option<ClaimSet>
-    requires { ⌜ Stands (set .words) (on (now trail)) (now trail .len) ⌝ }
-    ensures stands { λ r. ⌜ Cases r (Unit {0}) (λ s. Stands (s .words) (on (now (trail .exit))) (now (trail .exit) .len)) ⌝ }
-    ensures hands { λ r. ⌜ ((d : Meaning) → Shows (now (rules .entry .declared)) d → State-of d e q → now (node .entry) .action < d .acts → Fine (calculus d (rules .entry .phase)) (has (on (now (trail .entry)))) → Hands (calculus d (rules .entry .phase)) (Any (To d (now (node .entry)) e q)) (on (now (trail .entry))) (on (now (trail .exit))) r) ⌝ }
+    requires { Stands set.words (on trail.old) trail.old.len }
+    ensures stands { IfSome result (λ s. Stands s.words (on trail.new) trail.new.len) }
+    ensures hands { (d : Meaning) → Shows rules.entry.declared.now d → StateOf d e q → node.now.action < d.acts → Fine (calculus d rules.entry.phase) (has (on trail.old)) → Hands (calculus d rules.entry.phase) (Any (To d node.now e q)) (on trail.old) (on trail.new) result }
 {
     let reached = targets(rules.declared, e, q, node.action);
     let mut all = set;
@@ -65,14 +54,16 @@ fn add_false_steps(
     set: ClaimSet,
     trail: &mut Trail,
 ) -> Option<ClaimSet>
-    requires { ⌜ Stands (set .words) (on (now trail)) (now trail .len) ⌝ }
-    ensures stands { λ r. ⌜ Cases r (Unit {0}) (λ s. Stands (s .words) (on (now (trail .exit))) (now (trail .exit) .len)) ⌝ }
-    ensures hands { λ r. ⌜ ((d : Meaning) → Shows (now (rules .entry .declared)) d → e < length (d .forms) → is-until (form-at d e) ≡ true → now (node .entry) .action < d .acts → Fine (calculus d (rules .entry .phase)) (has (on (now (trail .entry)))) → Hands (calculus d (rules .entry .phase)) (Any (From d (now (node .entry)) e)) (on (now (trail .entry))) (on (now (trail .exit))) r) ⌝ }
+    requires { Stands set.words (on trail.old) trail.old.len }
+    ensures stands { IfSome result (λ s. Stands s.words (on trail.new) trail.new.len) }
+    ensures hands { (d : Meaning) → Shows rules.entry.declared.now d → e < length d.forms → is_until (form_at d e) ≡ true → node.now.action < d.acts → Fine (calculus d rules.entry.phase) (has (on trail.old)) → Hands (calculus d rules.entry.phase) (Any (From d node.now e)) (on trail.old) (on trail.new) result }
 {
     let mut all = set;
     for q in 0..states_of(rules.declared, e) {
-        if node.claims
-            .contains(number(rules.declared, Claim::FalseStep(e, q as u8))) {
+        if node
+            .claims
+            .contains(number(rules.declared, Claim::FalseStep(e, q as u8)))
+        {
             all = add_targets(rules, node, e, q as u8, all, trail)?;
         }
     }
@@ -87,9 +78,9 @@ fn add_if(
     set: ClaimSet,
     trail: &mut Trail,
 ) -> Option<ClaimSet>
-    requires { ⌜ Stands (set .words) (on (now trail)) (now trail .len) ⌝ }
-    ensures stands { λ r. ⌜ Cases r (Unit {0}) (λ s. Stands (s .words) (on (now (trail .exit))) (now (trail .exit) .len)) ⌝ }
-    ensures hands { λ r. ⌜ ((d : Meaning) → Shows (now (rules .entry .declared)) d → Fine (calculus d (rules .entry .phase)) (has (on (now (trail .entry)))) → Hands (calculus d (rules .entry .phase)) (λ y. (wanted ≡ true) × (y ≡ claim)) (on (now (trail .entry))) (on (now (trail .exit))) r) ⌝ }
+    requires { Stands set.words (on trail.old) trail.old.len }
+    ensures stands { IfSome result (λ s. Stands s.words (on trail.new) trail.new.len) }
+    ensures hands { (d : Meaning) → Shows rules.entry.declared.now d → Fine (calculus d rules.entry.phase) (has (on trail.old)) → Hands (calculus d rules.entry.phase) (λ y. (wanted ≡ true) × (y ≡ claim)) (on trail.old) (on trail.new) result }
 {
     if wanted {
         return add(rules, set, trail, &[claim]);
@@ -106,22 +97,23 @@ fn add_next(
     set: ClaimSet,
     trail: &mut Trail,
 ) -> Option<ClaimSet>
-    requires { ⌜ Stands (set .words) (on (now trail)) (now trail .len) ⌝ }
-    ensures stands { λ r. ⌜ Cases r (Unit {0}) (λ s. Stands (s .words) (on (now (trail .exit))) (now (trail .exit) .len)) ⌝ }
-    ensures hands { λ r. ⌜ ((d : Meaning) → Shows (now (rules .entry .declared)) d → e < length (d .forms) → form-at d e ≡ Next (now (node .entry) .action) f → Fine (calculus d (rules .entry .phase)) (has (on (now (trail .entry)))) → Hands (calculus d (rules .entry .phase)) (λ y. (s : Sign) × Operand d (now (node .entry)) (rules .entry .phase) e f s y) (on (now (trail .entry))) (on (now (trail .exit))) r) ⌝ }
+    requires { Stands set.words (on trail.old) trail.old.len }
+    ensures stands { IfSome result (λ s. Stands s.words (on trail.new) trail.new.len) }
+    ensures hands { (d : Meaning) → Shows rules.entry.declared.now d → e < length d.forms → form_at d e ≡ Next node.now.action f → Fine (calculus d rules.entry.phase) (has (on trail.old)) → Hands (calculus d rules.entry.phase) (λ y. (s : Sign) × Operand d node.now rules.entry.phase e f s y) (on trail.old) (on trail.new) result }
 {
     let claimed = node.claims.contains(number(rules.declared, Claim::True(e)));
     let all = add_if(rules, claimed, rules.true_form(f), set, trail)?;
-    let denied = node.claims
+    let denied = node
+        .claims
         .contains(number(rules.declared, Claim::False(e)));
     add_if(rules, denied, rules.false_form(f), all, trail)
 }
 
 // Adds what the node hands on by its claims of one form. None at a clash.
 fn hand_on(rules: Rules, node: &Node, e: u8, set: ClaimSet, trail: &mut Trail) -> Option<ClaimSet>
-    requires { ⌜ Stands (set .words) (on (now trail)) (now trail .len) ⌝ }
-    ensures stands { λ r. ⌜ Cases r (Unit {0}) (λ s. Stands (s .words) (on (now (trail .exit))) (now (trail .exit) .len)) ⌝ }
-    ensures hands { λ r. ⌜ ((d : Meaning) → Shows (now (rules .entry .declared)) d → e < length (d .forms) → now (node .entry) .action < d .acts → Fine (calculus d (rules .entry .phase)) (has (on (now (trail .entry)))) → Hands (calculus d (rules .entry .phase)) (By d (now (node .entry)) (rules .entry .phase) e) (on (now (trail .entry))) (on (now (trail .exit))) r) ⌝ }
+    requires { Stands set.words (on trail.old) trail.old.len }
+    ensures stands { IfSome result (λ s. Stands s.words (on trail.new) trail.new.len) }
+    ensures hands { (d : Meaning) → Shows rules.entry.declared.now d → e < length d.forms → node.now.action < d.acts → Fine (calculus d rules.entry.phase) (has (on trail.old)) → Hands (calculus d rules.entry.phase) (By d node.now rules.entry.phase e) (on trail.old) (on trail.new) result }
 {
     match rules.declared.form(e as usize) {
         Form::Next(b, f) => {
@@ -138,9 +130,9 @@ fn hand_on(rules: Rules, node: &Node, e: u8, set: ClaimSet, trail: &mut Trail) -
 
 // Adds all that the node hands on whatever is chosen. None at a clash.
 fn carry(rules: Rules, node: &Node, set: ClaimSet, trail: &mut Trail) -> Option<ClaimSet>
-    requires { ⌜ Stands (set .words) (on (now trail)) (now trail .len) ⌝ }
-    ensures stands { λ r. ⌜ Cases r (Unit {0}) (λ s. Stands (s .words) (on (now (trail .exit))) (now (trail .exit) .len)) ⌝ }
-    ensures hands { λ r. ⌜ ((d : Meaning) → Shows (now (rules .entry .declared)) d → now (node .entry) .action < d .acts → Fine (calculus d (rules .entry .phase)) (has (on (now (trail .entry)))) → Hands (calculus d (rules .entry .phase)) (Handed d (now (node .entry)) (rules .entry .phase)) (on (now (trail .entry))) (on (now (trail .exit))) r) ⌝ }
+    requires { Stands set.words (on trail.old) trail.old.len }
+    ensures stands { IfSome result (λ s. Stands s.words (on trail.new) trail.new.len) }
+    ensures hands { (d : Meaning) → Shows rules.entry.declared.now d → node.now.action < d.acts → Fine (calculus d rules.entry.phase) (has (on trail.old)) → Hands (calculus d rules.entry.phase) (Handed d node.now rules.entry.phase) (on trail.old) (on trail.new) result }
 {
     let mut all = set;
     for e in 0..rules.declared.forms().count() {
@@ -150,6 +142,7 @@ fn carry(rules: Rules, node: &Node, set: ClaimSet, trail: &mut Trail) -> Option<
 }
 
 // Chooses a target for each claim T step of a number at or above `from`, and expands. None where there is no room.
+#[cycle(choose_try_target)]
 fn choose(
     opening: Opening,
     node: &Node,
@@ -160,12 +153,12 @@ fn choose(
     edges: &mut [Edge],
     used: Used,
 ) -> Option<Used>
-    requires stands { ⌜ Stands (set .words) (on (now trail)) (now trail .len) ⌝ }
-    requires room { ⌜ Room (length (now nodes)) (length (now edges)) used ⌝ }
-    ensures len { λ _. ⌜ now (trail .exit) .len ≡ now (trail .entry) .len ⌝ }
-    ensures kept { λ _. ⌜ on (now (trail .exit)) ≡ on (now (trail .entry)) ⌝ }
-    ensures room { λ r. ⌜ More (length (now (nodes .entry))) (length (now (edges .entry))) used r ⌝ }
-    ensures entered { λ r. ⌜ Chooses (now (opening .entry .rules .declared)) (opening .entry .rules .phase) (opening .entry .origin) (now (node .entry)) from (on (now (trail .entry))) (now (nodes .entry)) (now (edges .entry)) used (now (nodes .exit)) (now (edges .exit)) r ⌝ }
+    requires stands { Stands set.words (on trail.old) trail.old.len }
+    requires room { Room (length nodes.old) (length edges.old) used }
+    ensures len { trail.new.len ≡ trail.old.len }
+    ensures kept { on trail.new ≡ on trail.old }
+    ensures room { More (length nodes.old) (length edges.old) used result }
+    ensures entered { Chooses opening.entry.rules.declared.now opening.entry.rules.phase opening.entry.origin node.now from (on trail.old) nodes.old edges.old used nodes.new edges.new result }
 {
     let declared = opening.rules.declared;
     let Some(step) = next_step(declared, node, from) else {
@@ -182,6 +175,7 @@ fn choose(
 }
 
 // The same with one target tried for a step. The guard puts the trail back.
+#[cycle(choose_try_target)]
 fn try_target(
     opening: Opening,
     node: &Node,
@@ -193,13 +187,13 @@ fn try_target(
     edges: &mut [Edge],
     used: Used,
 ) -> Option<Used>
-    requires step { ⌜ step .number < 256 ⌝ }
-    requires stands { ⌜ Stands (set .words) (on (now trail)) (now trail .len) ⌝ }
-    requires room { ⌜ Room (length (now nodes)) (length (now edges)) used ⌝ }
-    ensures len { λ _. ⌜ now (trail .exit) .len ≡ now (trail .entry) .len ⌝ }
-    ensures kept { λ _. ⌜ on (now (trail .exit)) ≡ on (now (trail .entry)) ⌝ }
-    ensures room { λ r. ⌜ More (length (now (nodes .entry))) (length (now (edges .entry))) used r ⌝ }
-    ensures entered { λ r. ⌜ Tries (now (opening .entry .rules .declared)) (opening .entry .rules .phase) (opening .entry .origin) (now (node .entry)) (step .number) (step .form) target (step .label) (on (now (trail .entry))) (now (nodes .entry)) (now (edges .entry)) used (now (nodes .exit)) (now (edges .exit)) r ⌝ }
+    requires step { step.number < 256 }
+    requires stands { Stands set.words (on trail.old) trail.old.len }
+    requires room { Room (length nodes.old) (length edges.old) used }
+    ensures len { trail.new.len ≡ trail.old.len }
+    ensures kept { on trail.new ≡ on trail.old }
+    ensures room { More (length nodes.old) (length edges.old) used result }
+    ensures entered { Tries opening.entry.rules.declared.now opening.entry.rules.phase opening.entry.origin node.now step.number step.form target step.label (on trail.old) nodes.old edges.old used nodes.new edges.new result }
 {
     let claim = number(
         opening.rules.declared,
@@ -234,10 +228,10 @@ pub fn enter_first(
     edges: &mut [Edge],
     used: Used,
 ) -> Option<Used>
-    requires room { ⌜ Room (length (now nodes)) (length (now edges)) used ⌝ }
-    ensures empty { λ _. ⌜ now (trail .exit) .len ≡ 0 ⌝ }
-    ensures room { λ r. ⌜ More (length (now (nodes .entry))) (length (now (edges .entry))) used r ⌝ }
-    ensures entered { λ r. ⌜ Enters-first (now (opening .entry .rules .declared)) (opening .entry .rules .phase) (opening .entry .origin) goal (now (nodes .entry)) (now (edges .entry)) used (now (nodes .exit)) (now (edges .exit)) r ⌝ }
+    requires room { Room (length nodes.old) (length edges.old) used }
+    ensures empty { trail.new.len ≡ 0 }
+    ensures room { More (length nodes.old) (length edges.old) used result }
+    ensures entered { EntersFirst opening.entry.rules.declared.now opening.entry.rules.phase opening.entry.origin goal nodes.old edges.old used nodes.new edges.new result }
 {
     let claim = opening.rules.true_form(goal);
     let guard = Tried {
@@ -260,10 +254,10 @@ pub fn enter_successors(
     edges: &mut [Edge],
     used: Used,
 ) -> Option<Used>
-    requires room { ⌜ Room (length (now nodes)) (length (now edges)) used ⌝ }
-    ensures empty { λ _. ⌜ now (trail .exit) .len ≡ 0 ⌝ }
-    ensures room { λ r. ⌜ More (length (now (nodes .entry))) (length (now (edges .entry))) used r ⌝ }
-    ensures entered { λ r. ⌜ Enters-successors (now (opening .entry .rules .declared)) (opening .entry .rules .phase) (opening .entry .origin) (now (node .entry)) (now (nodes .entry)) (now (edges .entry)) used (now (nodes .exit)) (now (edges .exit)) r ⌝ }
+    requires room { Room (length nodes.old) (length edges.old) used }
+    ensures empty { trail.new.len ≡ 0 }
+    ensures room { More (length nodes.old) (length edges.old) used result }
+    ensures entered { EntersSuccessors opening.entry.rules.declared.now opening.entry.rules.phase opening.entry.origin node.now nodes.old edges.old used nodes.new edges.new result }
 {
     let guard = Tried {
         trail: &mut *trail,

@@ -1,24 +1,17 @@
 // What claims give, and which of them clash.
-ghost use mathlib.Core.Path.{_≡_};
-ghost use Prim.Native.Nat.{ℕ, _+_, _*_, _<_, _≤_};
-ghost use mathlib.Core.Bool.{cond, _||_};
-ghost use mathlib.Core.List.{[], _∷_};
-ghost use lib.ListN.{length};
-ghost use Rattle·std.specs.Orderings.{Decides};
-ghost use Rattle·document.specs.Documents.{Document as Meaning, form-at, program-at};
-ghost use Rattle·document.specs.declared.form.Form.the-variants.{Prop};
-ghost use Rattle·program.specs.Automata.{Final};
-ghost use Rattle·tableau·specs.Calculus.{calculus, Offers, Offered, Either, Clashing, Clashes-with};
-ghost use Rattle·tableau·specs.Claims.{member};
-ghost use Rattle·tableau·specs.Graphs.{Sign, Sign.T, Sign.F, form, says, Gives, Gives-form, Gives-until, Gives-not-until};
-ghost use Rattle·tableau·specs.Meant.{meant};
-ghost use Rattle·tableau·specs.Numbers.{Shows, State-of, Claim-of, number-of};
-ghost use Rattle·tableau·specs.Offers.{Small, listed};
-ghost use Rattle·tableau·specs.Successions.{Claims};
-use crate::claim::Claim;
-use crate::claim::claim_of;
-use crate::claim::number;
-use crate::claim::signed;
+ghost use Rattle.std.specs.Prelude.{◌≡◌, ℕ, ◌+◌, ◌*◌, ◌<◌, ◌≤◌, ◌||◌, [], ◌∷◌, length, if◌then◌else◌, Decides};
+ghost use Rattle.document.specs.Documents.{Document as Meaning, form_at, program_at};
+ghost use Rattle.document.specs.declared.form.Form.TheVariants.{Prop};
+ghost use Rattle.program.specs.Automata.{Final};
+ghost use Rattle.tableau.specs.Calculus.{calculus, Offers, Offered, Either, Clashing, ClashesWith};
+ghost use Rattle.tableau.specs.Claims.{member};
+ghost use Rattle.tableau.specs.Graphs.{Sign, Sign.T, Sign.F, form, says, Gives, GivesForm, GivesUntil, GivesNotUntil};
+ghost use Rattle.tableau.specs.Meant.{meant};
+ghost use Rattle.tableau.specs.Numbers.{Shows, StateOf, ClaimOf, number_of};
+ghost use Rattle.tableau.specs.Offers.{Small, listed};
+ghost use Rattle.tableau.specs.Successions.{Claims};
+
+use crate::claim::{Claim, claim_of, number, signed};
 use crate::claims::ClaimSet;
 use document::declared::Declared;
 use document::form::Form;
@@ -33,8 +26,8 @@ pub struct Few {
 
 impl Few {
     fn one(a: u8) -> Few
-        ensures few { λ r. ⌜ r .count ≤ 3 ⌝ }
-        ensures is { λ r. ⌜ listed r ≡ a ∷ [] ⌝ }
+        ensures few { result.count ≤ 3 }
+        ensures is { listed result ≡ a ∷ [] }
     {
         Few {
             claims: [a, 0, 0],
@@ -43,8 +36,8 @@ impl Few {
     }
 
     fn two(a: u8, b: u8) -> Few
-        ensures few { λ r. ⌜ r .count ≤ 3 ⌝ }
-        ensures is { λ r. ⌜ listed r ≡ a ∷ b ∷ [] ⌝ }
+        ensures few { result.count ≤ 3 }
+        ensures is { listed result ≡ a ∷ b ∷ [] }
     {
         Few {
             claims: [a, b, 0],
@@ -64,8 +57,8 @@ pub enum Alternatives {
 impl Alternatives {
     // One claim or another; where they are the same claim there is no choice.
     fn either(a: u8, b: u8) -> Alternatives
-        ensures small { λ r. ⌜ Small r ⌝ }
-        ensures is { λ r. ⌜ Either a b r ⌝ }
+        ensures small { Small result }
+        ensures is { Either a b result }
     {
         if a == b {
             Alternatives::One(Few::one(a))
@@ -85,7 +78,7 @@ pub struct Rules<'a> {
 impl<'a> Rules<'a> {
     // That a form is true. A fresh until bears the label 1 - phase.
     pub fn true_form(self, e: u8) -> u8
-        ensures { λ r. ⌜ ((d : Meaning) → Shows (now (self .entry .declared)) d → e < length (d .forms) → r ≡ number-of d (says d (self .entry .phase) T e)) ⌝ }
+        ensures { (d : Meaning) → Shows self.entry.declared.now d → e < length d.forms → result ≡ number_of d (says d self.entry.phase T e) }
     {
         match self.declared.form(e as usize) {
             Form::Until(_, _, _) => {
@@ -98,7 +91,7 @@ impl<'a> Rules<'a> {
 
     // That a form is false.
     pub fn false_form(self, e: u8) -> u8
-        ensures { λ r. ⌜ ((d : Meaning) → Shows (now (self .entry .declared)) d → e < length (d .forms) → r ≡ number-of d (says d (self .entry .phase) F e)) ⌝ }
+        ensures { (d : Meaning) → Shows self.entry.declared.now d → e < length d.forms → result ≡ number_of d (says d self.entry.phase F e) }
     {
         match self.declared.form(e as usize) {
             Form::Until(_, _, _) => number(self.declared, Claim::FalseUntil(e, 0)),
@@ -107,8 +100,8 @@ impl<'a> Rules<'a> {
     }
 
     fn of_true(self, e: u8) -> Alternatives
-        ensures small { λ r. ⌜ Small r ⌝ }
-        ensures offers { λ r. ⌜ ((d : Meaning) → Shows (now (self .entry .declared)) d → e < length (d .forms) → Offered d (λ b. Gives-form d (self .entry .phase) b T (form-at d e)) r) ⌝ }
+        ensures small { Small result }
+        ensures offers { (d : Meaning) → Shows self.entry.declared.now d → e < length d.forms → Offered d (λ b. GivesForm d self.entry.phase b T (form_at d e)) result }
     {
         match self.declared.form(e as usize) {
             Form::Not(f) => Alternatives::One(Few::one(self.false_form(f))),
@@ -119,8 +112,8 @@ impl<'a> Rules<'a> {
     }
 
     fn of_false(self, e: u8) -> Alternatives
-        ensures small { λ r. ⌜ Small r ⌝ }
-        ensures offers { λ r. ⌜ ((d : Meaning) → Shows (now (self .entry .declared)) d → e < length (d .forms) → Offered d (λ b. Gives-form d (self .entry .phase) b F (form-at d e)) r) ⌝ }
+        ensures small { Small result }
+        ensures offers { (d : Meaning) → Shows self.entry.declared.now d → e < length d.forms → Offered d (λ b. GivesForm d self.entry.phase b F (form_at d e)) result }
     {
         match self.declared.form(e as usize) {
             Form::Not(f) => Alternatives::One(Few::one(self.true_form(f))),
@@ -132,16 +125,16 @@ impl<'a> Rules<'a> {
 
     // Whether a state of a program's automaton is final.
     fn is_final(self, p: u8, q: u8) -> bool
-        requires { ⌜ p < 16 ⌝ }
-        ensures { λ r. ⌜ ((d : Meaning) → Shows (now (self .entry .declared)) d → p < length (d .progs) → q < 16 → Decides r (Final (program-at d p) q)) ⌝ }
+        requires { p < 16 }
+        ensures { (d : Meaning) → Shows self.entry.declared.now d → p < length d.progs → q < 16 → Decides result (Final (program_at d p) q) }
     {
         Automaton::new(&self.declared.row(p)).is_final(q as usize)
     }
 
     // T until gives T g, where the state is final, or T f and the step.
     fn of_true_until(self, e: u8, q: u8, label: u8) -> Alternatives
-        ensures small { λ r. ⌜ Small r ⌝ }
-        ensures offers { λ r. ⌜ ((d : Meaning) → Shows (now (self .entry .declared)) d → State-of d e q → label < 2 → Offered d (λ b. Gives-until d (self .entry .phase) b e q label (form-at d e)) r) ⌝ }
+        ensures small { Small result }
+        ensures offers { (d : Meaning) → Shows self.entry.declared.now d → StateOf d e q → label < 2 → Offered d (λ b. GivesUntil d self.entry.phase b e q label (form_at d e)) result }
     {
         let Form::Until(f, p, g) = self.declared.form(e as usize) else {
             return Alternatives::Nothing;
@@ -157,8 +150,8 @@ impl<'a> Rules<'a> {
 
     // F until gives F f or the step, and besides F g where the state is final.
     fn of_false_until(self, e: u8, q: u8) -> Alternatives
-        ensures small { λ r. ⌜ Small r ⌝ }
-        ensures offers { λ r. ⌜ ((d : Meaning) → Shows (now (self .entry .declared)) d → State-of d e q → Offered d (λ b. Gives-not-until d (self .entry .phase) b e q (form-at d e)) r) ⌝ }
+        ensures small { Small result }
+        ensures offers { (d : Meaning) → Shows self.entry.declared.now d → StateOf d e q → Offered d (λ b. GivesNotUntil d self.entry.phase b e q (form_at d e)) result }
     {
         let Form::Until(f, p, g) = self.declared.form(e as usize) else {
             return Alternatives::Nothing;
@@ -175,8 +168,8 @@ impl<'a> Rules<'a> {
 
     // What a claim gives, by its alternatives.
     fn of_claim(self, claim: Claim) -> Alternatives
-        ensures small { λ r. ⌜ Small r ⌝ }
-        ensures offers { λ r. ⌜ ((d : Meaning) → Shows (now (self .entry .declared)) d → Claim-of d (meant claim) → Offered d (λ b. Gives d (self .entry .phase) b (meant claim)) r) ⌝ }
+        ensures small { Small result }
+        ensures offers { (d : Meaning) → Shows self.entry.declared.now d → ClaimOf d (meant claim) → Offered d (λ b. Gives d self.entry.phase b (meant claim)) result }
     {
         match claim {
             Claim::True(e) => self.of_true(e),
@@ -190,8 +183,8 @@ impl<'a> Rules<'a> {
 
     // The alternatives of a number: nothing where it is no claim's.
     pub fn alternatives(self, c: u8) -> Alternatives
-        ensures small { λ r. ⌜ Small r ⌝ }
-        ensures offers { λ r. ⌜ ((d : Meaning) → Shows (now (self .entry .declared)) d → Offers (calculus d (self .entry .phase)) c r) ⌝ }
+        ensures small { Small result }
+        ensures offers { (d : Meaning) → Shows self.entry.declared.now d → Offers (calculus d self.entry.phase) c result }
     {
         match claim_of(self.declared, c) {
             Some(claim) => self.of_claim(claim),
@@ -201,7 +194,7 @@ impl<'a> Rules<'a> {
 
     // Whether the set claims that proposition p is true, or that it is false.
     fn claims_prop(self, set: ClaimSet, p: u8, sign: bool) -> bool
-        ensures { λ r. ⌜ ((d : Meaning) → Shows (now (self .entry .declared)) d → Decides r ((h : ℕ) × Claims d (member (set .words)) (form (cond sign T F) h) × (form-at d h ≡ Prop p))) ⌝ }
+        ensures { (d : Meaning) → Shows self.entry.declared.now d → Decides result ((h : ℕ) × Claims d (member set.words) (form (if sign then T else F) h) × (form_at d h ≡ Prop p)) }
     {
         for e in 0..self.declared.forms().count() {
             if let Form::Prop(other) = self.declared.form(e) {
@@ -214,7 +207,7 @@ impl<'a> Rules<'a> {
     }
 
     fn clashes_form(self, set: ClaimSet, e: u8, sign: bool) -> bool
-        ensures { λ r. ⌜ ((d : Meaning) → Shows (now (self .entry .declared)) d → Claim-of d (form (cond sign T F) e) → Decides r (Clashes-with d (member (set .words)) (form (cond sign T F) e))) ⌝ }
+        ensures { (d : Meaning) → Shows self.entry.declared.now d → ClaimOf d (form (if sign then T else F) e) → Decides result (ClashesWith d (member set.words) (form (if sign then T else F) e)) }
     {
         if set.contains(number(self.declared, signed(e, !sign))) {
             return true;
@@ -228,14 +221,14 @@ impl<'a> Rules<'a> {
 
     // Whether the set has one of two claims.
     fn has_either(self, set: ClaimSet, a: Claim, b: Claim) -> bool
-        ensures { λ r. ⌜ ((d : Meaning) → Shows (now (self .entry .declared)) d → Claim-of d (meant a) → Claim-of d (meant b) → r ≡ (member (set .words) (number-of d (meant a)) || member (set .words) (number-of d (meant b)))) ⌝ }
+        ensures { (d : Meaning) → Shows self.entry.declared.now d → ClaimOf d (meant a) → ClaimOf d (meant b) → result ≡ (member set.words (number_of d (meant a)) || member set.words (number_of d (meant b))) }
     {
         set.contains(number(self.declared, a)) || set.contains(number(self.declared, b))
     }
 
     // Whether a claim clashes with one of the set or with itself.
     fn clashes_claim(self, set: ClaimSet, claim: Claim) -> bool
-        ensures { λ r. ⌜ ((d : Meaning) → Shows (now (self .entry .declared)) d → Claim-of d (meant claim) → Decides r (Clashes-with d (member (set .words)) (meant claim))) ⌝ }
+        ensures { (d : Meaning) → Shows self.entry.declared.now d → ClaimOf d (meant claim) → Decides result (ClashesWith d (member set.words) (meant claim)) }
     {
         match claim {
             Claim::True(e) => self.clashes_form(set, e, true),
@@ -257,7 +250,7 @@ impl<'a> Rules<'a> {
 
     // Whether the claim of a number clashes with one of the set or with itself.
     pub fn clashes(self, set: ClaimSet, c: u8) -> bool
-        ensures { λ r. ⌜ ((d : Meaning) → Shows (now (self .entry .declared)) d → Decides r (Clashing (calculus d (self .entry .phase)) (member (set .words)) c)) ⌝ }
+        ensures { (d : Meaning) → Shows self.entry.declared.now d → Decides result (Clashing (calculus d self.entry.phase) (member set.words) c) }
     {
         match claim_of(self.declared, c) {
             Some(claim) => self.clashes_claim(set, claim),

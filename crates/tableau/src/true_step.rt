@@ -1,17 +1,14 @@
 // The claims T step of a node, and where a step leads.
-ghost use mathlib.Core.Logic.{_↔_};
-ghost use mathlib.Core.Path.{_≡_};
-ghost use Prim.Native.Nat.{ℕ, _<_, _≤_};
-ghost use Rattle·std.specs.Options.{Cases};
-ghost use Rattle·program.specs.Automata.{Leads};
-ghost use Rattle·program.specs.Masks.{Bit};
-ghost use Rattle·document.specs.Documents.{Document as Meaning, form-at};
-ghost use Rattle·tableau·specs.Claims.{member};
-ghost use Rattle·tableau·specs.Graphs.{step-true, program-of};
-ghost use Rattle·tableau·specs.Numbers.{Shows, State-of, Claim-of, number-of};
-ghost use Rattle·tableau·specs.Successions.{Claims, No-step};
-use crate::claim::Claim;
-use crate::claim::claim_of;
+ghost use Rattle.std.specs.Prelude.{◌≡◌, ℕ, ◌<◌, ◌≤◌, ◌↔◌, IfSome, MatchOption, ◌≢◌};
+ghost use Rattle.program.specs.Automata.{Leads};
+ghost use Rattle.program.specs.Masks.{Bit};
+ghost use Rattle.document.specs.Documents.{Document as Meaning, form_at};
+ghost use Rattle.tableau.specs.Claims.{member};
+ghost use Rattle.tableau.specs.Graphs.{step_true, program_of};
+ghost use Rattle.tableau.specs.Numbers.{Shows, StateOf, ClaimOf, number_of};
+ghost use Rattle.tableau.specs.Successions.{Claims, NoStep};
+
+use crate::claim::{Claim, claim_of};
 use crate::node::Node;
 use document::declared::Declared;
 use document::form::Form;
@@ -19,7 +16,7 @@ use program::automaton::Automaton;
 
 // The states that the action leads to from a state of the form's automaton.
 pub fn targets(declared: &Declared, e: u8, q: u8, action: u8) -> u16
-    ensures { λ r. ⌜ ((d : Meaning) → Shows (now (declared .entry)) d → State-of d e q → action < d .acts → (n : ℕ) → Bit r n ↔ Leads (program-of d (form-at d e)) q action n) ⌝ }
+    ensures { (d : Meaning) → Shows declared.now d → StateOf d e q → action < d.acts → (n : ℕ) → Bit result n ↔ Leads (program_of d (form_at d e)) q action n }
 {
     match declared.form(e as usize) {
         Form::Until(_, p, _) => {
@@ -40,8 +37,8 @@ pub struct TrueStep {
 
 // The claim T step of a number, if it is one.
 fn step_of(declared: &Declared, c: u8) -> Option<TrueStep>
-    ensures number { λ r. ⌜ Cases r (Unit {0}) (λ s. s .number ≡ c) ⌝ }
-    ensures step { λ r. ⌜ ((d : Meaning) → Shows (now (declared .entry)) d → Cases r ((e q l : ℕ) → Claim-of d (step-true e q l) → number-of d (step-true e q l) ≡ c → ⊥) (λ s. Claim-of d (step-true (s .form) (s .state) (s .label)) × (number-of d (step-true (s .form) (s .state) (s .label)) ≡ c))) ⌝ }
+    ensures number { IfSome result (λ s. s.number ≡ c) }
+    ensures step { (d : Meaning) → Shows declared.now d → MatchOption result ((e q l : ℕ) → ClaimOf d (step_true e q l) → number_of d (step_true e q l) ≢ c) (λ s. ClaimOf d (step_true s.form s.state s.label) × (number_of d (step_true s.form s.state s.label) ≡ c)) }
 {
     let claim = claim_of(declared, c)?;
     match claim {
@@ -57,8 +54,8 @@ fn step_of(declared: &Declared, c: u8) -> Option<TrueStep>
 
 // The node's first claim T step of a number at or above `from`.
 pub fn next_step(declared: &Declared, node: &Node, from: usize) -> Option<TrueStep>
-    ensures within { λ r. ⌜ Cases r (Unit {0}) (λ s. (from ≤ s .number) × (s .number < 256)) ⌝ }
-    ensures next { λ r. ⌜ ((d : Meaning) → Shows (now (declared .entry)) d → Cases r (No-step d (now (node .entry)) from 256) (λ s. Claims d (member (now (node .entry) .claims .words)) (step-true (s .form) (s .state) (s .label)) × (number-of d (step-true (s .form) (s .state) (s .label)) ≡ s .number) × No-step d (now (node .entry)) from (s .number))) ⌝ }
+    ensures within { IfSome result (λ s. (from ≤ s.number) × (s.number < 256)) }
+    ensures next { (d : Meaning) → Shows declared.now d → MatchOption result (NoStep d node.now from 256) (λ s. Claims d (member node.now.claims.words) (step_true s.form s.state s.label) × (number_of d (step_true s.form s.state s.label) ≡ s.number) × NoStep d node.now from s.number) }
 {
     for c in from..256 {
         if node.claims.contains(c as u8) {

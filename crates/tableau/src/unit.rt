@@ -1,26 +1,16 @@
 // One unit of growing: what it forms nodes for, and how it enters them.
-ghost use mathlib.Core.Path.{_≡_};
-ghost use Prim.Native.Nat.{ℕ, _+_, _<_, _≤_};
-ghost use lib.ListN.{length};
-ghost use Rattle·std.specs.Options.{Cases};
-ghost use Rattle·document.specs.Documents.{Document as Meaning};
-ghost use Rattle·tableau·specs.Claims.{member};
-ghost use Rattle·tableau·specs.Entered.{Placed, Unplaced, Linking, Unlinked, Enters-node, Ready, Enters, The};
-ghost use Rattle·tableau·specs.Numbers.{Shows};
-ghost use Rattle·tableau·specs.Successions.{Closes};
-ghost use Rattle·tableau·specs.Tables.{Room, More};
+ghost use Rattle.std.specs.Prelude.{◌≡◌, ℕ, ◌+◌, ◌<◌, ◌≤◌, length, IfSome, MatchOption};
+ghost use Rattle.document.specs.Documents.{Document as Meaning};
+ghost use Rattle.tableau.specs.Claims.{member};
+ghost use Rattle.tableau.specs.Entered.{Placed, Unplaced, Linking, Unlinked, EntersNode, Ready, Enters, The};
+ghost use Rattle.tableau.specs.Numbers.{Shows};
+ghost use Rattle.tableau.specs.Successions.{Closes};
+ghost use Rattle.tableau.specs.Tables.{Room, More};
+
 use crate::claims::ClaimSet;
-use crate::node::Edge;
-use crate::node::MOST_EDGES;
-use crate::node::MOST_NODES;
-use crate::node::Node;
-use crate::node::Used;
-use crate::node::find_node;
-use crate::node::has_edge_to;
+use crate::node::{Edge, MOST_EDGES, MOST_NODES, Node, Used, find_node, has_edge_to};
 use crate::rules::Rules;
-use crate::tells::allowed_actions;
-use crate::tells::claimed_props;
-use crate::tells::promises;
+use crate::tells::{allowed_actions, claimed_props, promises};
 
 // Where the nodes of a unit come from: they are the first ones, or the successors of a node that is opened, whose edges
 // stand from `first_edge` on.
@@ -44,7 +34,7 @@ impl<'a> Opening<'a> {
     // Whether a node of this set is closing: the first ones are, and a successor of a node that is not, once no T until has
     // the label of its phase.
     fn closes(self, set: ClaimSet) -> bool
-        ensures { λ r. ⌜ ((d : Meaning) → Shows (now (self .entry .rules .declared)) d → self .entry .rules .phase < 2 → Closes d (self .entry .rules .phase) (self .entry .origin) (member (set .words)) r) ⌝ }
+        ensures { (d : Meaning) → Shows self.entry.rules.declared.now d → self.entry.rules.phase < 2 → Closes d self.entry.rules.phase self.entry.origin (member set.words) result }
     {
         match self.origin {
             Origin::First => true,
@@ -59,9 +49,9 @@ impl<'a> Opening<'a> {
 
 // The number of the node, which is entered where it is new. None where there is no room.
 fn place_of(node: &Node, nodes: &mut [Node], used: Used) -> Option<(u16, Used)>
-    requires room { ⌜ used .nodes ≤ length (now nodes) ⌝ ∗ ⌜ used .nodes ≤ 4096 ⌝ }
-    ensures placed { λ r. ⌜ Cases r (Unplaced (now (nodes .entry)) used (now (node .entry)) (now (nodes .exit))) (λ p. Placed (now (nodes .entry)) used (now (node .entry)) (now (nodes .exit)) (p .0) (p .1)) ⌝ }
-    ensures room { λ r. ⌜ Cases r (Unit {0}) (λ p. (p .1 .nodes ≤ length (now (nodes .entry))) × (p .1 .nodes ≤ 4096) × (used .nodes ≤ p .1 .nodes) × (p .1 .edges ≡ used .edges) × (p .0 < p .1 .nodes)) ⌝ }
+    requires room { (used.nodes ≤ length nodes.old) × (used.nodes ≤ 4096) }
+    ensures placed { MatchOption result (Unplaced nodes.old used node.now nodes.new) (λ p. Placed nodes.old used node.now nodes.new p.0 p.1) }
+    ensures room { IfSome result (λ p. (p.1.nodes ≤ length nodes.old) × (p.1.nodes ≤ 4096) × (used.nodes ≤ p.1.nodes) × (p.1.edges ≡ used.edges) × (p.0 < p.1.nodes)) }
 {
     if let Some(i) = find_node(nodes, used.nodes, node) {
         return Some((i as u16, used));
@@ -80,9 +70,9 @@ fn place_of(node: &Node, nodes: &mut [Node], used: Used) -> Option<(u16, Used)>
 
 // Enters an edge of this unit where it is new. None where there is no room.
 fn enter_edge(edge: Edge, first: usize, edges: &mut [Edge], used: Used) -> Option<Used>
-    requires { ⌜ used .edges ≤ length (now edges) ⌝ ∗ ⌜ used .edges ≤ 65536 ⌝ }
-    ensures linked { λ r. ⌜ Cases r (Unlinked (now (edges .entry)) used first edge (now (edges .exit))) (λ u. (u .nodes ≡ used .nodes) × Linking (now (edges .entry)) used first edge (now (edges .exit)) u) ⌝ }
-    ensures room { λ r. ⌜ Cases r (Unit {0}) (λ u. (u .edges ≤ length (now (edges .entry))) × (u .edges ≤ 65536) × (used .edges ≤ u .edges) × (u .nodes ≡ used .nodes)) ⌝ }
+    requires { (used.edges ≤ length edges.old) × (used.edges ≤ 65536) }
+    ensures linked { MatchOption result (Unlinked edges.old used first edge edges.new) (λ u. (u.nodes ≡ used.nodes) × Linking edges.old used first edge edges.new u) }
+    ensures room { IfSome result (λ u. (u.edges ≤ length edges.old) × (u.edges ≤ 65536) × (used.edges ≤ u.edges) × (u.nodes ≡ used.nodes)) }
 {
     if has_edge_to(edges, first, used.edges, edge.to) {
         return Some(used);
@@ -106,9 +96,9 @@ fn enter_node(
     edges: &mut [Edge],
     used: Used,
 ) -> Option<Used>
-    requires room { ⌜ Room (length (now nodes)) (length (now edges)) used ⌝ }
-    ensures entered { λ r. ⌜ ((d : Meaning) (x : ℕ) → Enters-node d x (opening .entry .origin) (now (node .entry)) (now (nodes .entry)) (now (edges .entry)) used (now (nodes .exit)) (now (edges .exit)) r) ⌝ }
-    ensures room { λ r. ⌜ More (length (now (nodes .entry))) (length (now (edges .entry))) used r ⌝ }
+    requires room { Room (length nodes.old) (length edges.old) used }
+    ensures entered { (d : Meaning) (x : ℕ) → EntersNode d x opening.entry.origin node.now nodes.old edges.old used nodes.new edges.new result }
+    ensures room { More (length nodes.old) (length edges.old) used result }
 {
     let (place, used) = place_of(node, nodes, used)?;
     match opening.origin {
@@ -129,9 +119,9 @@ pub fn enter_set(
     edges: &mut [Edge],
     used: Used,
 ) -> Option<Used>
-    requires room { ⌜ Room (length (now nodes)) (length (now edges)) used ⌝ }
-    ensures entered { λ r. ⌜ ((d : Meaning) → Ready (now (opening .entry .rules .declared)) d (opening .entry .rules .phase) (opening .entry .origin) used → Enters d (opening .entry .rules .phase) (opening .entry .origin) (The (set .words)) (The (set .words)) (now (nodes .entry)) (now (edges .entry)) used (now (nodes .exit)) (now (edges .exit)) r) ⌝ }
-    ensures room { λ r. ⌜ More (length (now (nodes .entry))) (length (now (edges .entry))) used r ⌝ }
+    requires room { Room (length nodes.old) (length edges.old) used }
+    ensures entered { (d : Meaning) → Ready opening.entry.rules.declared.now d opening.entry.rules.phase opening.entry.origin used → Enters d opening.entry.rules.phase opening.entry.origin (The set.words) (The set.words) nodes.old edges.old used nodes.new edges.new result }
+    ensures room { More (length nodes.old) (length edges.old) used result }
 {
     let declared = opening.rules.declared;
     let allowed = allowed_actions(declared, set);

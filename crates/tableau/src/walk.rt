@@ -1,33 +1,25 @@
 // The walk in depth over the choices: the trail lists the claims of the set in the order in which they came in, and a
 // cursor goes over it.
-ghost use mathlib.Core.Path.{_≡_};
-ghost use Prim.Native.Nat.{ℕ, _+_, _<_, _≤_};
-ghost use lib.ListN.{length, take};
-ghost use Rattle·std.specs.Options.{Cases};
-ghost use Rattle·tableau·specs.Expansions.{Adding};
-ghost use Rattle·tableau·specs.Offers.{listed};
-ghost use Rattle·tableau·specs.Units.{Expands};
-ghost use Rattle·tableau·specs.Walk.{grown, on, Stands};
-ghost use Rattle·tableau·specs.Tables.{Room, More};
+ghost use Rattle.std.specs.Prelude.{◌≡◌, ℕ, ◌+◌, ◌<◌, ◌≤◌, length, take, IfSome};
+ghost use Rattle.tableau.specs.Expansions.{Adding};
+ghost use Rattle.tableau.specs.Offers.{listed};
+ghost use Rattle.tableau.specs.Units.{Expands};
+ghost use Rattle.tableau.specs.Walk.{grown, on, Stands};
+ghost use Rattle.tableau.specs.Tables.{Room, More};
+
 use crate::claims::ClaimSet;
-use crate::node::Edge;
-use crate::node::Node;
-use crate::node::Used;
-use crate::rules::Alternatives;
-use crate::rules::Few;
-use crate::rules::Rules;
-use crate::trail::Trail;
-use crate::trail::Tried;
-use crate::unit::Opening;
-use crate::unit::enter_set;
+use crate::node::{Edge, Node, Used};
+use crate::rules::{Alternatives, Few, Rules};
+use crate::trail::{Trail, Tried};
+use crate::unit::{Opening, enter_set};
 
 // Adds the claims that are not in the set yet. None at a clash.
 pub fn add(rules: Rules, start: ClaimSet, trail: &mut Trail, claims: &[u8]) -> Option<ClaimSet>
-    requires { ⌜ Stands (start .words) (on (now trail)) (now trail .len) ⌝ }
-    ensures kept { λ _. ⌜ take (now (trail .entry) .len) (now (trail .exit) .claims) ≡ on (now (trail .entry)) ⌝ }
-    ensures added { λ r. ⌜ Cases r (Unit {0}) (λ s. Stands (s .words) (on (now (trail .exit))) (now (trail .exit) .len) × (on (now (trail .exit)) ≡ grown (on (now (trail .entry))) (now (claims .entry)))) ⌝ }
-    ensures more { λ _. ⌜ now (trail .entry) .len ≤ now (trail .exit) .len ⌝ }
-    ensures fine { λ r. ⌜ Adding (now (rules .entry .declared)) (rules .entry .phase) (on (now (trail .entry))) (now (claims .entry)) r ⌝ }
+    requires { Stands start.words (on trail.old) trail.old.len }
+    ensures kept { take trail.old.len trail.new.claims ≡ on trail.old }
+    ensures added { IfSome result (λ s. Stands s.words (on trail.new) trail.new.len × (on trail.new ≡ grown (on trail.old) claims.now)) }
+    ensures more { trail.old.len ≤ trail.new.len }
+    ensures fine { Adding rules.entry.declared.now rules.entry.phase (on trail.old) claims.now result }
 {
     let mut set = start;
     for x in claims {
@@ -44,6 +36,7 @@ pub fn add(rules: Rules, start: ClaimSet, trail: &mut Trail, claims: &[u8]) -> O
 }
 
 // Enters the nodes of what is reached from the trail's claim at the cursor on. None where there is no room.
+#[cycle(expand_follow)]
 pub fn expand(
     opening: Opening,
     set: ClaimSet,
@@ -53,12 +46,12 @@ pub fn expand(
     edges: &mut [Edge],
     used: Used,
 ) -> Option<Used>
-    requires stands { ⌜ Stands (set .words) (on (now trail)) (now trail .len) ⌝ }
-    requires room { ⌜ Room (length (now nodes)) (length (now edges)) used ⌝ }
-    ensures len { λ _. ⌜ now (trail .exit) .len ≡ now (trail .entry) .len ⌝ }
-    ensures kept { λ _. ⌜ on (now (trail .exit)) ≡ on (now (trail .entry)) ⌝ }
-    ensures room { λ r. ⌜ More (length (now (nodes .entry))) (length (now (edges .entry))) used r ⌝ }
-    ensures entered { λ r. ⌜ Expands (now (opening .entry .rules .declared)) (opening .entry .rules .phase) (opening .entry .origin) (on (now (trail .entry))) at (on (now (trail .entry))) (now (nodes .entry)) (now (edges .entry)) used (now (nodes .exit)) (now (edges .exit)) r ⌝ }
+    requires stands { Stands set.words (on trail.old) trail.old.len }
+    requires room { Room (length nodes.old) (length edges.old) used }
+    ensures len { trail.new.len ≡ trail.old.len }
+    ensures kept { on trail.new ≡ on trail.old }
+    ensures room { More (length nodes.old) (length edges.old) used result }
+    ensures entered { Expands opening.entry.rules.declared.now opening.entry.rules.phase opening.entry.origin (on trail.old) at (on trail.old) nodes.old edges.old used nodes.new edges.new result }
 {
     if at >= trail.len {
         return enter_set(opening, set, nodes, edges, used);
@@ -74,6 +67,7 @@ pub fn expand(
 }
 
 // The same with the claims of one alternative added. The guard puts the trail back.
+#[cycle(expand_follow)]
 fn follow(
     opening: Opening,
     set: ClaimSet,
@@ -84,14 +78,14 @@ fn follow(
     edges: &mut [Edge],
     used: Used,
 ) -> Option<Used>
-    requires stands { ⌜ Stands (set .words) (on (now trail)) (now trail .len) ⌝ }
-    requires room { ⌜ Room (length (now nodes)) (length (now edges)) used ⌝ }
-    requires cursor { ⌜ at < now trail .len ⌝ }
-    requires few { ⌜ now few .count ≤ 3 ⌝ }
-    ensures len { λ _. ⌜ now (trail .exit) .len ≡ now (trail .entry) .len ⌝ }
-    ensures kept { λ _. ⌜ on (now (trail .exit)) ≡ on (now (trail .entry)) ⌝ }
-    ensures room { λ r. ⌜ More (length (now (nodes .entry))) (length (now (edges .entry))) used r ⌝ }
-    ensures entered { λ r. ⌜ Expands (now (opening .entry .rules .declared)) (opening .entry .rules .phase) (opening .entry .origin) (on (now (trail .entry))) (at + 1) (grown (on (now (trail .entry))) (listed (now (few .entry)))) (now (nodes .entry)) (now (edges .entry)) used (now (nodes .exit)) (now (edges .exit)) r ⌝ }
+    requires stands { Stands set.words (on trail.old) trail.old.len }
+    requires room { Room (length nodes.old) (length edges.old) used }
+    requires cursor { at < trail.old.len }
+    requires few { few.now.count ≤ 3 }
+    ensures len { trail.new.len ≡ trail.old.len }
+    ensures kept { on trail.new ≡ on trail.old }
+    ensures room { More (length nodes.old) (length edges.old) used result }
+    ensures entered { Expands opening.entry.rules.declared.now opening.entry.rules.phase opening.entry.origin (on trail.old) (at + 1) (grown (on trail.old) (listed few.now)) nodes.old edges.old used nodes.new edges.new result }
 {
     let mark = trail.len;
     let guard = Tried {

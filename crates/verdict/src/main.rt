@@ -1,21 +1,19 @@
 // Reads a document from standard input, grows its goal's graph to the end, and writes the verdict with its lasso.
-ghost use mathlib.Core.Path.{_≡_};
-ghost use Rattle·document.specs.Faults.{loadCode, loadLine};
-ghost use Rattle·study.specs.Refusals.{refusalCode};
-ghost use Rattle·verdict·specs.declared.Outcome.the-variants.{Refused};
+ghost use Rattle.std.specs.Prelude.{◌≡◌};
+ghost use Rattle.document.specs.Faults.{load_fault_code, load_fault_line};
+ghost use Rattle.study.specs.Refusals.{refusal_code};
+ghost use Rattle.verdict.specs.declared.Outcome.TheVariants.{Refused};
+
 use document::fault::LoadFault;
 use lasso::step::Step;
-use std::alloc::AllocError;
-use std::alloc::Global;
+use std::alloc::{AllocError, Global};
 use std::io;
-use std::io::Read;
-use std::io::Write;
+use std::io::{Read, Write};
 use study::refusal::Refusal;
 use study::study::Study;
 use study::study::calls::Verdict;
 use tableau::grow::Report;
-use tableau::node::Edge;
-use tableau::node::Node;
+use tableau::node::{Edge, Node};
 
 // Places of the tables.
 const NODES: usize = 512;
@@ -64,7 +62,7 @@ fn spelled(word: Word) -> &'static str {
 }
 
 fn refused_call(refusal: Refusal) -> Outcome
-    ensures { λ r. ⌜ r ≡ Refused (refusalCode refusal) 0 ⌝ }
+    ensures { result ≡ Refused (refusal_code refusal) 0 }
 {
     Outcome::Refused {
         code: refusal.code(),
@@ -115,7 +113,7 @@ fn settle(study: &mut Study, work: &mut [u64], steps: &mut [Step], text: &mut [u
 }
 
 fn refused_load(fault: LoadFault) -> Outcome
-    ensures { λ r. ⌜ r ≡ Refused (loadCode fault) (loadLine fault) ⌝ }
+    ensures { result ≡ Refused (load_fault_code fault) (load_fault_line fault) }
 {
     Outcome::Refused {
         code: fault.code(),
@@ -136,13 +134,13 @@ fn settled(heap: Global, document: &[u8], text: &mut [u8]) -> Result<Outcome, Al
     }
 }
 
-fn main(rt: LibcRuntime) -> io::Result<()> {
+fn main(rt: HostRuntime) -> io::Result<()> {
     let heap = rt.alloc();
     let mut document = Vec::new(heap);
     rt.stdin().read_to_end(&mut document)?;
     let mut text = vec![in heap; 0u8; TEXT]?;
     match settled(heap, &document, &mut text)? {
-        Outcome::Refused { code, line } => println!(rt, "refused\t{code}\t{line}"),
+        Outcome::Refused { code, line } => println!(rt; "refused\t{code}\t{line}"),
         Outcome::Decided {
             word,
             nodes,
@@ -150,7 +148,7 @@ fn main(rt: LibcRuntime) -> io::Result<()> {
             lines,
         } => {
             let word = spelled(word);
-            println!(rt, "verdict\t{word}\t{nodes}\t{edges}")?;
+            println!(rt; "verdict\t{word}\t{nodes}\t{edges}")?;
             if lines <= text.len() {
                 rt.stdout().write_all(&text[0..lines])?;
             }

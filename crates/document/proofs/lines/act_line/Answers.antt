@@ -1,47 +1,44 @@
-use mathlib.Core.Path.{_≡_, refl, sym, ap, subst, _∙_}
-use mathlib.Core.List.{[], _∷_, _++_}
-use Prim.Native.Nat.{_<_}
-use lib.ListN.{getD}
-use Rattle·program.specs.Names.{Named, Missing, spelled}
-use Rattle·document·specs.Kept.{names-of}
-use Rattle·document·specs.Texts.{fields}
-use Rattle·document·specs.Told.{New-below, Declares}
-use Rattle·document·specs.declared.fault.LineFault.the-variants.{Shape}
-use Rattle·document·proofs.Lined.{act-count, act-name, act-below, act-done}
-use Rattle·document·proofs.Refused.{refused}
-use Rattle·document·proofs.lines.act_line.Needs as need
+use Rattle.std.proofs.Common.{◌≡◌, ◌<◌, [], ◌∷◌, ◌++◌, get_or, sym, refl, ap, ◌∙◌, subst}
+use Rattle.program.specs.Names.{Named, Missing, spelled}
+use Rattle.document.specs.Kept.{names_of}
+use Rattle.document.specs.Texts.{fields}
+use Rattle.document.specs.Told.{NewBelow, Declares}
+use Rattle.document.specs.declared.fault.LineFault.TheVariants.{Shape}
+use Rattle.document.proofs.Lined.{act_count, act_name, act_below, act_done}
+use Rattle.document.proofs.Refused.{refused}
+use Rattle.document.proofs.lines.act_line.Goals as goal
 
-pub returns-in-Break-counted : need.returns-in-Break-counted
-returns-in-Break-counted c = λ w d h.
-    refused (Declares d (c .args .line .now)) d (c .args .line .now) (c .from-residual .result) (c .in-Break-counted .field-0 .0) Shape (c .from-residual .ensures .1)
-    (c .in-Break-counted .ensures tt .0) (act-count (c .args .declared) (c .args .line .now) w d (c .in-Break-counted .ensures tt .1))
+pub returns-in-err-counted : goal.returns-in-err-counted
+returns-in-err-counted c = λ w d h.
+    refused (Declares d c.args.line.now) d c.args.line.now c.from-residual.result c.in-err-counted.field-0.0 Shape c.from-residual.ensures.1
+    c.in-err-counted.ensures.0 (act_count c.args.declared c.args.line.now w d c.in-err-counted.ensures.1)
 
-pub returns-in-Break-name : need.returns-in-Break-name
-returns-in-Break-name c = λ w d h.
-    refused (Declares d (c .args .line .now)) d (c .args .line .now) (c .from-residual-in-Break-name .result) (c .in-Break-name .field-0 .0) Shape
-    (c .from-residual-in-Break-name .ensures .1) (c .in-Break-name .ensures tt .0)
-    (act-name (c .args .declared) (c .args .line .now) w d (λ n. c .in-Break-name .ensures tt .1 (subst Named (sym (c .field-text .ensures)) n)))
+pub returns-in-err-name : goal.returns-in-err-name
+returns-in-err-name c = λ w d h.
+    refused (Declares d c.args.line.now) d c.args.line.now c.from-residual-in-err-name.result c.in-err-name.field-0.0 Shape
+    c.from-residual-in-err-name.ensures.1 c.in-err-name.ensures.0
+    (act_name c.args.declared c.args.line.now w d (λ n. c.in-err-name.ensures.1 (subst Named (sym c.field-text.ensures) n)))
 
-pub returns-in-Break-new-below : need.returns-in-Break-new-below
-returns-in-Break-new-below c = λ w d h.
-    let s = c .args .declared in
-    let bytes = c .args .line .now in
-    let f = c .in-Break-new-below .field-0 .0 in
-    refused (Declares d bytes) d bytes (c .from-residual-in-Break-new-below .result) f f (c .from-residual-in-Break-new-below .ensures .1) refl
-    (act-below s bytes w f (c .in-Continue-counted .ensures tt) (subst Named (c .field-text .ensures) (c .in-Continue-name .ensures tt .0))
-    (subst (λ n. New-below (names-of (s .acts)) (s .acts .count) n 16 f) (c .field-text .ensures)
-    (subst (λ v. New-below (names-of v) (v .count) (c .field-text .result .now) 16 f) (c .acts .ensures .is) (c .in-Break-new-below .ensures tt .is)))
+pub returns-in-err-new-below : goal.returns-in-err-new-below
+returns-in-err-new-below c = λ w d h.
+    let s = c.args.declared in
+    let bytes = c.args.line.now in
+    let f = c.in-err-new-below.field-0.0 in
+    refused (Declares d bytes) d bytes c.from-residual-in-err-new-below.result f f c.from-residual-in-err-new-below.ensures.1 refl
+    (act_below s bytes w f c.in-ok-counted.ensures (subst Named c.field-text.ensures c.in-ok-name.ensures.0)
+    (subst (λ n. NewBelow (names_of s.acts) s.acts.count n 16 f) c.field-text.ensures
+    (subst (λ v. NewBelow (names_of v) v.count c.field-text.result.now 16 f) c.acts.ensures.is c.in-err-new-below.ensures.is))
     d h)
 
-pub returns : need.returns
+pub returns : goal.returns
 returns c = λ w d h.
-    let s = c .args .declared in
-    let bytes = c .args .line .now in
-    let next = c .with-act .result in
-    let text : c .field-text .result .now ≡ getD (fields bytes) 1 [] = c .field-text .ensures in
-    let name : spelled (c .in-Continue-name .name) ≡ getD (fields bytes) 1 [] = c .in-Continue-name .ensures tt .1 ∙ text in
-    let few : s .acts .count < 16 = subst (λ v. v .count < 16) (c .acts .ensures .is) (c .in-Continue-new-below .ensures tt .below) in
-    act-done s bytes w next (c .in-Continue-counted .ensures tt) (subst Named text (c .in-Continue-name .ensures tt .0))
-    (subst (Missing (names-of (s .acts))) text
-    (subst (λ v. Missing (names-of v) (c .field-text .result .now)) (c .acts .ensures .is) (c .in-Continue-new-below .ensures tt .is)))
-    few (c .with-act .ensures .acts ∙ ap (λ n. names-of (s .acts) ++ n ∷ []) name) (c .with-act .ensures .rest) d h
+    let s = c.args.declared in
+    let bytes = c.args.line.now in
+    let next = c.with-act.result in
+    let text : c.field-text.result.now ≡ get_or (fields bytes) 1 [] = c.field-text.ensures in
+    let name : spelled c.in-ok-name.name ≡ get_or (fields bytes) 1 [] = c.in-ok-name.ensures.1 ∙ text in
+    let few : s.acts.count < 16 = subst (λ v. v.count < 16) c.acts.ensures.is c.in-ok-new-below.ensures.below in
+    act_done s bytes w next c.in-ok-counted.ensures (subst Named text c.in-ok-name.ensures.0)
+    (subst (Missing (names_of s.acts)) text
+    (subst (λ v. Missing (names_of v) c.field-text.result.now) c.acts.ensures.is c.in-ok-new-below.ensures.is))
+    few (c.with-act.ensures.acts ∙ ap (λ n. names_of s.acts ++ n ∷ []) name) c.with-act.ensures.rest d h

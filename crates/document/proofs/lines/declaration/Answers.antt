@@ -1,6 +1,6 @@
-use mathlib.Core.Path.{_∙_}
-use Rattle·document·proofs.FormLines.{unknown-word}
-use Rattle·document·proofs.lines.declaration.Needs as need
+use Rattle.std.proofs.Common.{◌∙◌}
+use Rattle.document.proofs.FormLines.{unknown_word}
+use Rattle.document.proofs.lines.declaration.Goals as goal
 
-pub returns-in-rest : need.returns-in-rest
-returns-in-rest c = λ w d h. unknown-word d (c .args .line .now) (λ k e. c .in-rest .ensures tt k (c .field .ensures ∙ e))
+pub returns-in-default : goal.returns-in-default
+returns-in-default c = λ w d h. unknown_word d c.args.line.now (λ k e. c.in-default.ensures k (c.field.ensures ∙ e))

@@ -1,8 +1,7 @@
-use mathlib.Core.Path.{refl, _∙_}
-use mathlib.Core.Bool.{false}
-use Rattle·std.proofs.shelf.Tests.{both-ways}
-use Rattle·document·specs.declared.words.Word.the-variants.{Goal}
-use Rattle·document·proofs.lines.is_goal.Needs as need
+use Rattle.std.proofs.Common.{false, refl, ◌∙◌}
+use Rattle.std.proofs.lemmas.Bool.{both_ways}
+use Rattle.document.specs.declared.words.Word.TheVariants.{Goal}
+use Rattle.document.proofs.lines.is_goal.Goals as goal
 
-pub returns-in-rest : need.returns-in-rest
-returns-in-rest c = (λ e. absurd (both-ways false refl e), λ e. absurd (c .in-rest .ensures tt Goal (c .field .ensures ∙ e)))
+pub returns-in-default : goal.returns-in-default
+returns-in-default c = (λ e. absurd (both_ways false refl e), λ e. absurd (c.in-default.ensures Goal (c.field.ensures ∙ e)))

@@ -1,104 +1,99 @@
-use mathlib.Core.Path.{_≡_, refl, sym, ap, subst, _∙_}
-use Prim.Native.Nat.{ℕ, _+_, _-_, _<_, _≤_}
-use native.Mathlib.Omega.{arith}
-use borrow.Author.Needs.{needs}
-use lib.ListN.{length, drop, take}
-use Rattle·std.specs.Vec.{refused}
-use Rattle·std.specs.declared.result.Result.the-variants.{Ok, Err}
-use Rattle·std.proofs.shelf.Lists.{drop-all}
-use Rattle·std.proofs.shelf.Results.{err-from-errBy, cases-at-some, cases-at-none}
-use Rattle·std.proofs.shelf.Tests.{ltb-true, ltb-false}
-use Rattle·document·specs.Faults.{lineCode, lineColumn, loadLine}
-use Rattle·document·specs.Lines.{nothing}
-use Rattle·document·specs.Loading.{Line-read, Loaded}
-use Rattle·document·specs.Outcomes.{too-long, read}
-use Rattle·document·specs.Outcomes as outcome
-use Rattle·document·specs.Texts.{pieces}
-use Rattle·document·specs.declared.fault.LoadFault.the-variants.{TooLong, Line}
-use Rattle·document·proofs.Deciding.{one-outcome}
-use Rattle·document·proofs.Documented.{represents, well-formed}
-use Rattle·document·proofs.Reached.{Read, Unread, reached-start, reached-more, reached-fault, reached-end}
-use Rattle·document·proofs.Spelling.{accepted-exactly, one-document}
-use Rattle·document·proofs.load.load.Needs as need
+use Rattle.std.proofs.Common.{◌≡◌, ℕ, ◌+◌, ◌-◌, ◌<◌, ◌≤◌, length, take, drop, IfErr, Ok, Err, sym, refl, ap, ◌∙◌, subst, arith, rules}
+use Rattle.std.proofs.lemmas.List.{drop_all}
+use Rattle.std.proofs.lemmas.Result.{err_from_is_err_and}
+use Rattle.std.proofs.lemmas.Option.{MatchOption-at_some, MatchOption-at_none}
+use Rattle.std.proofs.lemmas.Bool.{ltb-true, ltb-false}
+use Rattle.document.specs.Faults.{line_fault_code, line_fault_column, load_fault_line}
+use Rattle.document.specs.Lines.{nothing}
+use Rattle.document.specs.Loading.{LineRead, Loaded}
+use Rattle.document.specs.Outcomes.{too_long, read}
+use Rattle.document.specs.Outcomes as outcome
+use Rattle.document.specs.Texts.{pieces}
+use Rattle.document.specs.declared.fault.LoadFault.TheVariants.{TooLong, Line}
+use Rattle.document.proofs.Deciding.{one_outcome}
+use Rattle.document.proofs.Documented.{represents, well_formed}
+use Rattle.document.proofs.Reached.{Read, Unread, reached_start, reached_more, reached_fault, reached_end}
+use Rattle.document.proofs.Spelling.{accepted_exactly, one_document}
+use Rattle.document.proofs.load.load.Goals as goal
 
-pub loop-at-holds : need.loop-at-holds
-loop-at-holds c = (omega arith, omega arith, reached-start (c .args .text .now) (c .start-progress .result) (c .start-progress .ensures .none) (c .start-progress .ensures .nothing))
+pub loop-at-init : goal.loop-at-init
+loop-at-init c = (omega arith, omega arith, reached_start c.args.text.now c.start-progress.result c.start-progress.ensures.none c.start-progress.ensures.nothing)
 
-pub loop-at-again : need.loop-at-again
-loop-at-again c =
-    let text = c .args .text .now in
-    let at = c .loop-at .at in
-    let end = c .next-place-end .result in
-    let s = c .next-place-end .ensures in
-    let old = c .loop-at .progress in
-    let next = c .in-Continue-progress .progress in
-    let whole : end < length text = ltb-true end (length text) (c .in-Continue-progress .ensures tt .whole) in (
-      omega (arith, c .loop-at .inv, s .within),
+pub loop-at-preserved : goal.loop-at-preserved
+loop-at-preserved c =
+    let text = c.args.text.now in
+    let at = c.loop-at.at in
+    let end = c.next-place-end.result in
+    let s = c.next-place-end.ensures in
+    let old = c.loop-at.progress in
+    let next = c.in-ok-progress.progress in
+    let whole : end < length text = ltb-true end (length text) c.in-ok-progress.ensures.whole in (
+      omega (arith, c.loop-at.invariant, s.within),
       omega arith,
-      reached-more text at end (c .loop-at .number) old (s .within .0) (s .within .1) (c .loop-at-test .taken) (s .before) (s .here) (c .loop-at .inv .2) next whole
-          (subst (λ v. Line-read old (take (end - at) (drop at text)) v (Ok next)) (c .in-Continue-progress .ensures tt .whole) (c .in-Continue-progress .ensures tt .reads)),
+      reached_more text at end c.loop-at.number old s.within.0 s.within.1 c.loop-at-test.true s.before s.here c.loop-at.invariant.2 next whole
+          (subst (λ v. LineRead old (take (end - at) (drop at text)) v (Ok next)) c.in-ok-progress.ensures.whole c.in-ok-progress.ensures.reads),
     )
 
-pub returns-then-text-gt16384 : need.returns-then-text-gt16384
-returns-then-text-gt16384 c = record { long = λ _. refl; short = λ h e. omega arith; one = one-outcome; exactly = accepted-exactly; single = one-document; loaded = too-long (c .if-text-gt16384 .taken); line = omega arith }
+pub returns-then-text-gt16384 : goal.returns-then-text-gt16384
+returns-then-text-gt16384 c = record { long = λ _. refl; short = λ h e. omega arith; one = one_outcome; exactly = accepted_exactly; single = one_document; loaded = too_long c.if-text-gt16384.true; line = omega arith }
 
-pub returns-in-Break-progress : need.returns-in-Break-progress
-returns-in-Break-progress c =
-    let text = c .args .text .now in
-    let at = c .loop-at .at in
-    let end = c .next-place-end .result in
-    let s = c .next-place-end .ensures in
-    let f = c .in-Break-progress .field-0 .0 in
-    let p = err-from-errBy (c .from-residual .result) (c .from-residual .ensures .1) in
-    let is : c .from-residual .result ≡ Err (Line f) = p .1 ∙ ap Err (p .2) in
-    let number : f .line ≡ c .loop-at .number = c .in-Break-progress .ensures tt .whole in
-    let comes = reached-fault text at end (c .loop-at .number) (c .loop-at .progress) (s .within .0) (s .within .1) (c .loop-at-test .taken) (s .before) (s .here) (c .loop-at .inv .2)
-    (f .fault) _ (ltb-true end (length text)) (ltb-false end (length text)) (c .in-Break-progress .ensures tt .reads) in
+pub returns-in-err-progress : goal.returns-in-err-progress
+returns-in-err-progress c =
+    let text = c.args.text.now in
+    let at = c.loop-at.at in
+    let end = c.next-place-end.result in
+    let s = c.next-place-end.ensures in
+    let f = c.in-err-progress.field-0.0 in
+    let p = err_from_is_err_and c.from-residual.result c.from-residual.ensures.1 in
+    let is : c.from-residual.result ≡ Err (Line f) = p.1 ∙ ap Err p.2 in
+    let number : f.line ≡ c.loop-at.number = c.in-err-progress.ensures.whole in
+    let comes = reached_fault text at end c.loop-at.number c.loop-at.progress s.within.0 s.within.1 c.loop-at-test.true s.before s.here c.loop-at.invariant.2
+    f.fault _ (ltb-true end (length text)) (ltb-false end (length text)) c.in-err-progress.ensures.reads in
     record {
       long = λ h. absurd (omega arith);
-      short = λ h e. let same : Err (Line f) ≡ Err TooLong = sym is ∙ e in let z : _≡_ {A = ℕ} 0 1 = cc same in omega arith;
-      one = one-outcome;
-      exactly = accepted-exactly;
-      single = one-document;
-      loaded = subst (Loaded text) (sym is) (read (c .if-text-gt16384 .left) (subst (λ n. outcome.Comes nothing 1 (pieces 10 text) (outcome.refused (lineCode (f .fault)) n (lineColumn (f .fault)))) (sym number) comes));
-      line = subst (λ r. refused r (λ g. loadLine g ≤ length text + 1)) (sym is) (omega (arith, c .loop-at .inv));
+      short = λ h e. let same : Err (Line f) ≡ Err TooLong = sym is ∙ e in let z : ◌≡◌ {A = ℕ} 0 1 = cc same in omega arith;
+      one = one_outcome;
+      exactly = accepted_exactly;
+      single = one_document;
+      loaded = subst (Loaded text) (sym is) (read c.if-text-gt16384.false (subst (λ n. outcome.Comes nothing 1 (pieces 10 text) (outcome.refused (line_fault_code f.fault) n (line_fault_column f.fault))) (sym number) comes));
+      line = subst (λ r. IfErr r (λ g. load_fault_line g ≤ length text + 1)) (sym is) (omega (arith, c.loop-at.invariant));
     }
 
-pub returns-in-Some : need.returns-in-Some
+pub returns-in-Some : goal.returns-in-Some
 returns-in-Some c =
-    let text = c .args .text .now in
-    let number = c .loop-at .number in
-    let doc = c .in-Some .document in
-    let left = pieces 10 (drop (c .loop-at .at) text) in
-    let r = cases-at-some (Unread text number left (c .loop-at .progress .declared)) (Read text number left) doc (c .in-Some .is) (c .loop-at .inv .2) in
+    let text = c.args.text.now in
+    let number = c.loop-at.number in
+    let doc = c.in-Some.document in
+    let left = pieces 10 (drop c.loop-at.at text) in
+    let r = MatchOption-at_some (Unread text number left c.loop-at.progress.declared) (Read text number left) doc c.in-Some.is c.loop-at.invariant.2 in
     record {
       long = λ h. absurd (omega arith);
-      short = search needs;
-      one = one-outcome;
-      exactly = accepted-exactly;
-      single = one-document;
+      short = search rules;
+      one = one_outcome;
+      exactly = accepted_exactly;
+      single = one_document;
       loaded = record {
-        declarations = r .0;
-        loads = read (c .if-text-gt16384 .left) (r .2 (ap (pieces 10) (drop-all (c .loop-at .at) text (c .loop-at-test .left))));
-        holds = r .1;
-        represents = represents doc (r .0) (r .1);
-        well-formed = well-formed doc (r .0) (r .1);
+        declarations = r.0;
+        loads = read c.if-text-gt16384.false (r.2 (ap (pieces 10) (drop_all c.loop-at.at text c.loop-at-test.false)));
+        holds = r.1;
+        represents = represents doc r.0 r.1;
+        well_formed = well_formed doc r.0 r.1;
       };
       line = tt;
     }
 
-pub returns-in-None : need.returns-in-None
+pub returns-in-None : goal.returns-in-None
 returns-in-None c =
-    let text = c .args .text .now in
-    let number = c .loop-at .number in
-    let left = pieces 10 (drop (c .loop-at .at) text) in
-    let u = cases-at-none (Unread text number left (c .loop-at .progress .declared)) (Read text number left) (c .in-None .is) (c .loop-at .inv .2) in
+    let text = c.args.text.now in
+    let number = c.loop-at.number in
+    let left = pieces 10 (drop c.loop-at.at text) in
+    let u = MatchOption-at_none (Unread text number left c.loop-at.progress.declared) (Read text number left) c.in-None.is c.loop-at.invariant.2 in
     record {
       long = λ h. absurd (omega arith);
-      short = search needs;
-      one = one-outcome;
-      exactly = accepted-exactly;
-      single = one-document;
-      loaded = read (c .if-text-gt16384 .left) (reached-end text (c .loop-at .at) number (c .loop-at .progress .declared) (c .loop-at-test .left) u);
-      line = omega (arith, c .loop-at .inv);
+      short = search rules;
+      one = one_outcome;
+      exactly = accepted_exactly;
+      single = one_document;
+      loaded = read c.if-text-gt16384.false (reached_end text c.loop-at.at number c.loop-at.progress.declared c.loop-at-test.false u);
+      line = omega (arith, c.loop-at.invariant);
     }

@@ -1,40 +1,37 @@
-use mathlib.Core.Logic.{⊎-elim}
-use mathlib.Core.Path.{_∙_, ap, subst}
-use native.Mathlib.Omega.{arith}
-use lib.ListN.{take}
-use Rattle·std.specs.shelf.Lists.{All}
-use Rattle·std.proofs.shelf.Lists.{length-take-le, take-all}
-use Rattle·std.proofs.shelf.Elements.{all-more}
-use Rattle·lasso·proofs.Decimals.{number, number-more, number-small, Digit, Numeral, numeral-is}
-use Rattle·lasso·proofs.decimal.read_state.Needs as need
+use Rattle.std.proofs.Common.{take, ap, ◌∙◌, subst, ⊎_elim, arith}
+use Rattle.std.specs.List.{AllByRecursion as All}
+use Rattle.std.proofs.lemmas.List.{length-take-le, take_all}
+use Rattle.std.proofs.ByRecursion.{All-more}
+use Rattle.lasso.proofs.Decimals.{number, number_more, number_small, Digit, Numeral, numeral_is}
+use Rattle.lasso.proofs.decimal.read_state.Goals as goal
 
-pub mul-value : need.mul-value
-mul-value c =
-    let field = c .args .field .now in
-    let ds = take (c .loop-k .k) field in
-    let small = number-small ds (omega (arith, length-take-le (c .loop-k .k) field (omega arith))) (c .loop-k .inv .1) in omega arith
+pub overflow-mul-value : goal.overflow-mul-value
+overflow-mul-value c =
+    let field = c.args.field.now in
+    let ds = take c.loop-k.k field in
+    let small = number_small ds (omega (arith, length-take-le c.loop-k.k field (omega arith))) c.loop-k.invariant.1 in omega arith
 
-pub add-value : need.add-value
-add-value c =
-    let field = c .args .field .now in
-    let ds = take (c .loop-k .k) field in
-    let small = number-small ds (omega (arith, length-take-le (c .loop-k .k) field (omega arith))) (c .loop-k .inv .1) in omega arith
+pub overflow-add-value : goal.overflow-add-value
+overflow-add-value c =
+    let field = c.args.field.now in
+    let ds = take c.loop-k.k field in
+    let small = number_small ds (omega (arith, length-take-le c.loop-k.k field (omega arith))) c.loop-k.invariant.1 in omega arith
 
-pub loop-k-again : need.loop-k-again
-loop-k-again c =
-    let field = c .args .field .now in
-    let more = number-more field (c .loop-k .k) (omega arith) in
-    (omega arith, all-more Digit field (c .loop-k .k) 0 (omega arith) (c .loop-k .inv .1) (omega arith, omega arith))
+pub loop-k-preserved : goal.loop-k-preserved
+loop-k-preserved c =
+    let field = c.args.field.now in
+    let more = number_more field c.loop-k.k (omega arith) in
+    (omega arith, All-more Digit field c.loop-k.k 0 (omega arith) c.loop-k.invariant.1 (omega arith, omega arith))
 
-pub returns-else-value-gt4095 : need.returns-else-value-gt4095
+pub returns-else-value-gt4095 : goal.returns-else-value-gt4095
 returns-else-value-gt4095 c =
-    let field = c .args .field .now in
-    let all = take-all (c .loop-k .k) field (omega arith) in
-    let digits = subst (All Digit) all (c .loop-k .inv .1) in
+    let field = c.args.field.now in
+    let all = take_all c.loop-k.k field (omega arith) in
+    let digits = subst (All Digit) all c.loop-k.invariant.1 in
     let numeral : Numeral field = record {
       some = omega arith;
       few = omega arith;
-      head = λ l e. ⊎-elim (λ p. omega (arith, p .1)) (λ p. p e) (c .else-field-eq48 .either);
+      head = λ l e. ⊎_elim (λ p. omega (arith, p.1)) (λ p. p e) c.else-field-eq48.either;
       digits = digits;
     } in
-    (c .if-value-gt4095 .left, numeral-is field (c .loop-k .value) numeral (c .loop-k .inv .0 ∙ ap (number 0) all))
+    (c.if-value-gt4095.false, numeral_is field c.loop-k.value numeral (c.loop-k.invariant.0 ∙ ap (number 0) all))

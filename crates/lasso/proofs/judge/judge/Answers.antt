@@ -1,52 +1,48 @@
-use mathlib.Core.Path.{sym, _∙_, ap, subst}
-use mathlib.Core.List.{List}
-use Prim.Native.Nat.{ℕ}
-use native.Mathlib.Omega.{arith}
-use Rattle·std.specs.Orderings.{Decides}
-use Rattle·std.proofs.shelf.Tests.{and-parts, ltb-true}
-use Rattle·std.proofs.shelf.Ways.{decides-at}
-use Rattle·document.specs.Documents.{Document, Well-formed, formula-at}
-use Rattle·document.specs.Represents.{Represents}
-use Rattle·document.specs.declared.document.Document.{Document as Held}
-use Rattle·lasso·specs.Judged.{Judges}
-use Rattle·lasso·specs.Lassos.{IsLasso, stepAt}
-use Rattle·lasso·specs.Readings.{Truth}
-use Rattle·lasso·specs.Sessions.{reading}
-use Rattle·lasso·specs.declared.step.Step.{Step}
-use Rattle·lasso·proofs.Alike.{truth-alike}
-use Rattle·lasso·proofs.Decided.{truth-decided}
-use Rattle·lasso·proofs.Meetings.{meets-alike}
-use Rattle·lasso·proofs.Truths.{judged-none, judged-tells}
-use Rattle·lasso·proofs.judge.judge.Needs as need
+use Rattle.std.proofs.Common.{ℕ, List, Decides, sym, ap, ◌∙◌, subst, arith}
+use Rattle.std.proofs.lemmas.Bool.{and_parts, ltb-true}
+use Rattle.std.proofs.lemmas.Bool.Decides.{Decides-at}
+use Rattle.document.specs.Documents.{Document, WellFormed, formula_at}
+use Rattle.document.specs.Represents.{Represents}
+use Rattle.document.specs.declared.document.Document.{Document as Held}
+use Rattle.lasso.specs.Judged.{Judges}
+use Rattle.lasso.specs.Lassos.{IsLasso, step_in}
+use Rattle.lasso.specs.Readings.{Truth}
+use Rattle.lasso.specs.Sessions.{reading}
+use Rattle.lasso.specs.declared.step.Step.{Step}
+use Rattle.lasso.proofs.Alike.{truth_alike}
+use Rattle.lasso.proofs.Decided.{truth_decided}
+use Rattle.lasso.proofs.Meetings.{meets_alike}
+use Rattle.lasso.proofs.Truths.{judged_none, judged_tells}
+use Rattle.lasso.proofs.judge.judge.Goals as goal
 
-judges : (held : Held) (steps : List Step) (stem : ℕ) → IsLasso (held .declared .acts .count) (held .declared .props .count) steps stem
-    → (d : Document) → Represents held d → Well-formed d → Judges (held .declared) steps d
+judges : (held : Held) (steps : List Step) (stem : ℕ) → IsLasso held.declared.acts.count held.declared.props.count steps stem
+    → (d : Document) → Represents held d → WellFormed d → Judges held.declared steps d
 judges held steps stem lasso d same good = record {
   good = good;
-  lines = same .lines;
-  count = same .forms;
-  rows = same .rows;
+  lines = same.lines;
+  count = same.forms;
+  rows = same.rows;
   low = λ i l.
-      let b = ltb-true (stepAt steps i .action) (held .declared .acts .count) (and-parts _ _ (lasso .declared i l) .0) in
-      omega (arith, same .acts, good .few-acts);
+      let b = ltb-true (step_in steps i).action held.declared.acts.count (and_parts _ _ (lasso.declared i l)).0 in
+      omega (arith, same.acts, good.few_acts);
 }
 
-pub loop-e-holds : need.loop-e-holds
-loop-e-holds c d J = judged-none d (c .args .steps .now) (c .args .stem) (c .clear .last .words) (λ k l. c .clear .ensures k (omega arith))
+pub loop-e-init : goal.loop-e-init
+loop-e-init c d J = judged_none d c.args.steps.now c.args.stem c.clear.new.words (λ k l. c.clear.ensures k (omega arith))
 
-pub loop-e-again : need.loop-e-again
-loop-e-again c d J = c .judge-form .ensures d J (c .loop-e .inv d J)
+pub loop-e-preserved : goal.loop-e-preserved
+loop-e-preserved c d J = c.judge-form.ensures d J (c.loop-e.invariant d J)
 
-pub returns : need.returns
+pub returns : goal.returns
 returns c = record {
   decides = λ d same good.
-      let steps = c .args .steps .now in
-      let J = subst (λ held. Judges held steps d) (sym (c .declared-declared .ensures)) (judges (c .args .document .now) steps (c .args .stem) (c .pre .lasso) d same good) in
-      let all = c .count-e-end .ensures .is ∙ ap (λ x. x .count) (c .forms .ensures .is) ∙ ap (λ x. x .forms .count) (c .declared-declared .ensures) in
+      let steps = c.args.steps.now in
+      let J = subst (λ held. Judges held steps d) (sym c.declared-declared.ensures) (judges c.args.document.now steps c.args.stem c.requires.lasso d same good) in
+      let all = c.count-e-end.ensures.is ∙ ap (λ x. x.count) c.forms.ensures.is ∙ ap (λ x. x.forms.count) c.declared-declared.ensures in
       let t =
-      judged-tells d steps (c .args .stem) (c .loop-e .e) 0 (c .loop-e .truths) (c .loop-e .inv d J) (c .goal .result) 0
-      (omega (arith, c .loop-e-test .left, c .goal .ensures .aimed)) (omega arith) in
-      subst (λ (e : ℕ). Decides (c .bit .result) (Truth (reading steps (c .args .stem)) 0 (formula-at d e))) (c .goal .ensures .is ∙ same .goal)
-      (decides-at (c .bit .result) _ (c .bit .ensures) t);
-  laws = (truth-decided, (truth-alike, meets-alike));
+      judged_tells d steps c.args.stem c.loop-e.e 0 c.loop-e.truths (c.loop-e.invariant d J) c.goal.result 0
+      (omega (arith, c.loop-e-test.false, c.goal.ensures.aimed)) (omega arith) in
+      subst (λ (e : ℕ). Decides c.bit.result (Truth (reading steps c.args.stem) 0 (formula_at d e))) (c.goal.ensures.is ∙ same.goal)
+      (Decides-at c.bit.result _ c.bit.ensures t);
+  laws = (truth_decided, (truth_alike, meets_alike));
 }

@@ -1,30 +1,27 @@
-use mathlib.Core.Path.{sym, _∙_, ap}
-use Prim.Native.Nat.{ℕ}
-use native.Mathlib.Omega.{arith}
-use lib.ListN.{getD}
-use Rattle·std.proofs.shelf.Tests.{both-ways}
-use Rattle·lasso·specs.Judged.{holds-by}
-use Rattle·lasso·specs.Lassos.{stepAt}
-use Rattle·lasso·proofs.Holds.{holds-so}
-use Rattle·lasso·proofs.Truths.{judged-true, judged-false, judged-all}
-use Rattle·lasso·proofs.judge.judge_plain.Needs as need
-use Rattle·lasso·proofs.judge.judge_plain.Needs.{then-holds, else-holds}
+use Rattle.std.proofs.Common.{ℕ, get_or, sym, ap, ◌∙◌, arith}
+use Rattle.std.proofs.lemmas.Bool.{both_ways}
+use Rattle.lasso.specs.Judged.{holds_by}
+use Rattle.lasso.specs.Lassos.{step_in}
+use Rattle.lasso.proofs.Holds.{holds_so}
+use Rattle.lasso.proofs.Truths.{judged_true, judged_false, judged_all}
+use Rattle.lasso.proofs.judge.judge_plain.Goals as goal
+use Rattle.lasso.proofs.judge.judge_plain.Goals.{then-holds, else-holds}
 
-pub loop-i-again : need.loop-i-again
-loop-i-again c d good b is j =
-    let steps = c .args .steps .now in
-    let i = c .loop-i .i in
-    let truths = c .loop-i .truths in
-    let now = c .loop-i .inv d good b is j in
-    let h = holds-so d steps (c .args .stem) (c .pre .stem) (c .args .e) i i truths now (omega arith) (c .args .form) good b is (c .pre .form .1 .1) in
-    let e = c .holds .ensures ∙ ap (λ (k : ℕ). holds-by (c .args .form) (stepAt steps i) (getD truths i 0) (getD truths k 0)) (c .after .ensures .is) in
-    elim (c .if-holds .came) [
+pub loop-i-preserved : goal.loop-i-preserved
+loop-i-preserved c d good b is j =
+    let steps = c.args.steps.now in
+    let i = c.loop-i.i in
+    let truths = c.loop-i.truths in
+    let now = c.loop-i.invariant d good b is j in
+    let h = holds_so d steps c.args.stem c.requires.stem c.args.e i i truths now (omega arith) c.args.form good b is c.requires.form.1.1 in
+    let e = c.holds.ensures ∙ ap (λ (k : ℕ). holds_by c.args.form (step_in steps i) (get_or truths i 0) (get_or truths k 0)) c.after.ensures.is in
+    elim c.if-holds.branch [
       | then-holds w ↦
-          judged-true d steps (c .args .stem) (c .args .e) i truths (omega arith) now (omega arith) (omega arith) (h .0 (sym e ∙ w .if-holds .taken)) _ (w .truths-is)
+          judged_true d steps c.args.stem c.args.e i truths (omega arith) now (omega arith) (omega arith) (h.0 (sym e ∙ w.if-holds.true)) _ w.truths-is
       | else-holds w ↦
-          judged-false d steps (c .args .stem) (c .args .e) i truths (omega arith) now (λ x. both-ways (c .holds .result) (w .if-holds .left) (e ∙ h .1 x)) _ (w .truths-is)
+          judged_false d steps c.args.stem c.args.e i truths (omega arith) now (λ x. both_ways c.holds.result w.if-holds.false (e ∙ h.1 x)) _ w.truths-is
     ]
 
-pub returns : need.returns
+pub returns : goal.returns
 returns c d good b is j =
-    judged-all d (c .args .steps .now) (c .args .stem) (c .args .e) (c .loop-i .i) (c .loop-i .truths) (c .loop-i-test .left) (c .loop-i .inv d good b is j)
+    judged_all d c.args.steps.now c.args.stem c.args.e c.loop-i.i c.loop-i.truths c.loop-i-test.false (c.loop-i.invariant d good b is j)

@@ -1,19 +1,15 @@
-use mathlib.Core.Path.{sym, _∙_, ap}
-use mathlib.Core.List.{_++_}
-use Prim.Native.Nat.{ℕ}
-use native.Mathlib.Omega.{arith}
-use lib.ListN.{drop}
-use Rattle·lasso·specs.DeclaredNames.{acts-of, props-of}
-use Rattle·lasso·specs.LassoTexts.{lasso-text}
-use Rattle·lasso·proofs.Written.{written-first}
-use Rattle·lasso·proofs.print.print.Needs as need
+use Rattle.std.proofs.Common.{ℕ, ◌++◌, drop, sym, ap, ◌∙◌, arith}
+use Rattle.lasso.specs.DeclaredNames.{acts_of, props_of}
+use Rattle.lasso.specs.LassoTexts.{lasso_text}
+use Rattle.lasso.proofs.Written.{written_first}
+use Rattle.lasso.proofs.print.print.Goals as goal
 
-pub returns : need.returns
+pub returns : goal.returns
 returns c =
-    let d = c .args .document .now .declared in
-    let words = lasso-text (acts-of d) (props-of d) (c .args .steps .now) (c .args .stem) in
-    let text = c .args .text .now in (
-      c .write .ensures .length,
+    let d = c.args.document.now.declared in
+    let words = lasso_text (acts_of d) (props_of d) c.args.steps.now c.args.stem in
+    let text = c.args.text.now in (
+      c.write.ensures.length,
       omega arith,
-      c .write .ensures .text ∙ written-first text words (omega arith) ∙ ap (λ (n : ℕ). words ++ drop n text) (sym (c .write .ensures .length)),
+      c.write.ensures.text ∙ written_first text words (omega arith) ∙ ap (λ (n : ℕ). words ++ drop n text) (sym c.write.ensures.length),
     )

@@ -1,77 +1,75 @@
-use mathlib.Core.Path.{_≡_, refl, sym, _∙_, subst}
-use mathlib.Core.List.{List}
-use Prim.Native.Nat.{ℕ}
-use Rattle·std.proofs.shelf.Tests.{false≢true, not-true, not-false}
-use Rattle·program.specs.Names.{Missing, Number}
-use Rattle·document.specs.Faults.{lineCode}
-use Rattle·document.specs.Kept.{names-of}
-use Rattle·lasso·specs.DeclaredNames.{acts-of, props-of}
-use Rattle·document.specs.declared.fault.LineFault.{LineFault}
-use Rattle·document.specs.declared.names.Names.{Names}
-use Rattle·lasso·specs.MarkFields.{Marks-read, No-marks}
-use Rattle·lasso·specs.LassoLines.{Faulty}
-use Rattle·lasso·proofs.StepLines.{exit-at, fault-fields, fault-kind, fault-action, fault-state, fault-marks, fault-unknown-action, fault-unknown-mark, line-reads}
-use Rattle·lasso·proofs.scan.read_line.Needs as need
+use Rattle.std.proofs.Common.{◌≡◌, ℕ, List, sym, refl, ◌∙◌, subst}
+use Rattle.std.proofs.lemmas.Bool.{false≢true, not_true, not-false}
+use Rattle.program.specs.Names.{Missing, Number}
+use Rattle.document.specs.Faults.{line_fault_code}
+use Rattle.document.specs.Kept.{names_of}
+use Rattle.lasso.specs.DeclaredNames.{acts_of, props_of}
+use Rattle.document.specs.declared.fault.LineFault.{LineFault}
+use Rattle.document.specs.declared.names.Names.{Names}
+use Rattle.lasso.specs.MarkFields.{MarksRead, NoMarks}
+use Rattle.lasso.specs.LassoLines.{Faulty}
+use Rattle.lasso.proofs.StepLines.{exit_at, fault_fields, fault_kind, fault_action, fault_state, fault_marks, fault_unknown_action, fault_unknown_mark, line_reads}
+use Rattle.lasso.proofs.scan.read_line.Goals as goal
 
 -- a fault of shape
-shaped : (acts props : List (List ℕ)) (line : List ℕ) (f g : LineFault) → f ≡ g → Faulty acts props line (lineCode g) → Faulty acts props line (lineCode f)
+shaped : (acts props : List (List ℕ)) (line : List ℕ) (f g : LineFault) → f ≡ g → Faulty acts props line (line_fault_code g) → Faulty acts props line (line_fault_code f)
 shaped acts props line f g e h = rw e h
 
-pub returns-in-Break-counted : need.returns-in-Break-counted
-returns-in-Break-counted c =
-    let e = c .in-Break-counted .ensures tt in
-    exit-at (c .from-residual .result) (c .in-Break-counted .field-0 .0) _ _ (c .from-residual .ensures .1)
-    (shaped _ _ _ _ _ (e .0) (fault-fields (acts-of (c .args .declared .now)) (props-of (c .args .declared .now)) (c .args .line .now) (e .1)))
+pub returns-in-err-counted : goal.returns-in-err-counted
+returns-in-err-counted c =
+    let e = c.in-err-counted.ensures in
+    exit_at c.from-residual.result c.in-err-counted.field-0.0 _ _ c.from-residual.ensures.1
+    (shaped _ _ _ _ _ e.0 (fault_fields (acts_of c.args.declared.now) (props_of c.args.declared.now) c.args.line.now e.1))
 
-pub returns-in-Break-in-stem : need.returns-in-Break-in-stem
-returns-in-Break-in-stem c =
-    let e = c .in-Break-in-stem .ensures tt in
-    exit-at (c .from-residual-in-Break-in-stem .result) (c .in-Break-in-stem .field-0 .0) _ _ (c .from-residual-in-Break-in-stem .ensures .1)
-    (shaped _ _ _ _ _ (e .0) (fault-kind (acts-of (c .args .declared .now)) (props-of (c .args .declared .now)) (c .args .line .now) _ (c .field .ensures) (e .1) (e .2)))
+pub returns-in-err-in-stem : goal.returns-in-err-in-stem
+returns-in-err-in-stem c =
+    let e = c.in-err-in-stem.ensures in
+    exit_at c.from-residual-in-err-in-stem.result c.in-err-in-stem.field-0.0 _ _ c.from-residual-in-err-in-stem.ensures.1
+    (shaped _ _ _ _ _ e.0 (fault_kind (acts_of c.args.declared.now) (props_of c.args.declared.now) c.args.line.now _ c.field.ensures e.1 e.2))
 
-pub returns-then-not-is-name : need.returns-then-not-is-name
+pub returns-then-not-is-name : goal.returns-then-not-is-name
 returns-then-not-is-name c =
-    fault-action (acts-of (c .args .declared .now)) (props-of (c .args .declared .now)) (c .args .line .now) _ (c .field-name .ensures) (λ n. false≢true (c .if-not-is-name .ensures tt .1 n))
+    fault_action (acts_of c.args.declared.now) (props_of c.args.declared.now) c.args.line.now _ c.field-name.ensures (λ n. false≢true (c.if-not-is-name.ensures.1 n))
 
-pub returns-in-rest : need.returns-in-rest
-returns-in-rest c =
-    fault-state (acts-of (c .args .declared .now)) (props-of (c .args .declared .now)) (c .args .line .now) _ (c .field-2 .ensures) (c .in-rest .ensures tt)
+pub returns-in-default : goal.returns-in-default
+returns-in-default c =
+    fault_state (acts_of c.args.declared.now) (props_of c.args.declared.now) c.args.line.now _ c.field-2.ensures c.in-default.ensures
 
-pub returns-in-Break-marks : need.returns-in-Break-marks
-returns-in-Break-marks c =
-    let e = c .in-Break-marks .ensures tt in
-    let none = subst (λ (n : Names). No-marks (names-of n) (c .field-3 .result .now)) (c .props .ensures .is) (e .1) in
-    exit-at (c .from-residual-in-Break-marks .result) (c .in-Break-marks .field-0 .0) _ _ (c .from-residual-in-Break-marks .ensures .1)
-    (shaped _ _ _ _ _ (e .0) (fault-marks (acts-of (c .args .declared .now)) (props-of (c .args .declared .now)) (c .args .line .now) _ (c .field-3 .ensures) none))
+pub returns-in-err-marks : goal.returns-in-err-marks
+returns-in-err-marks c =
+    let e = c.in-err-marks.ensures in
+    let none = subst (λ (n : Names). NoMarks (names_of n) c.field-3.result.now) c.props.ensures.is e.1 in
+    exit_at c.from-residual-in-err-marks.result c.in-err-marks.field-0.0 _ _ c.from-residual-in-err-marks.ensures.1
+    (shaped _ _ _ _ _ e.0 (fault_marks (acts_of c.args.declared.now) (props_of c.args.declared.now) c.args.line.now _ c.field-3.ensures none))
 
-pub returns-in-rest-find : need.returns-in-rest-find
-returns-in-rest-find c =
-    let s = c .in-Some .ensures tt in
-    let m = c .in-Continue-marks .ensures tt in
-    let read = subst (λ (n : Names). Marks-read (names-of n) (m .0) (c .in-Continue-marks .marks)) (c .props .ensures .is) (m .2) in
-    let miss = subst (λ (n : Names). Missing (names-of n) (c .field-name .result .now)) (c .acts .ensures .is) (c .in-rest-find .ensures tt .is) in
-    fault-unknown-action (acts-of (c .args .declared .now)) (props-of (c .args .declared .now)) (c .args .line .now) (c .in-Continue-in-stem .in-stem)
-    (c .field-name .result .now) (c .field-2 .result .now) (c .field-3 .result .now) (c .in-Some .state) (m .0) (c .in-Continue-marks .marks) (c .in-Continue-counted .ensures tt)
-    (sym (c .in-Continue-in-stem .ensures tt) ∙ c .field .ensures) (c .field-name .ensures) (sym (s .1) ∙ c .field-2 .ensures) (sym (m .1) ∙ c .field-3 .ensures)
-    (c .if-not-is-name .ensures tt .0 refl) (s .0) read miss
+pub returns-in-default-find : goal.returns-in-default-find
+returns-in-default-find c =
+    let s = c.in-Some.ensures in
+    let m = c.in-ok-marks.ensures in
+    let read = subst (λ (n : Names). MarksRead (names_of n) m.0 c.in-ok-marks.marks) c.props.ensures.is m.2 in
+    let miss = subst (λ (n : Names). Missing (names_of n) c.field-name.result.now) c.acts.ensures.is c.in-default-find.ensures.is in
+    fault_unknown_action (acts_of c.args.declared.now) (props_of c.args.declared.now) c.args.line.now c.in-ok-in-stem.in_stem
+    c.field-name.result.now c.field-2.result.now c.field-3.result.now c.in-Some.state m.0 c.in-ok-marks.marks c.in-ok-counted.ensures
+    (sym c.in-ok-in-stem.ensures ∙ c.field.ensures) c.field-name.ensures (sym s.1 ∙ c.field-2.ensures) (sym m.1 ∙ c.field-3.ensures)
+    (c.if-not-is-name.ensures.0 refl) s.0 read miss
 
-pub returns-then-not-marks : need.returns-then-not-marks
+pub returns-then-not-marks : goal.returns-then-not-marks
 returns-then-not-marks c =
-    let s = c .in-Some .ensures tt in
-    let m = c .in-Continue-marks .ensures tt in
-    let read = subst (λ (n : Names). Marks-read (names-of n) (m .0) (c .in-Continue-marks .marks)) (c .props .ensures .is) (m .2) in
-    fault-unknown-mark (acts-of (c .args .declared .now)) (props-of (c .args .declared .now)) (c .args .line .now) (c .in-Continue-in-stem .in-stem)
-    (c .field-name .result .now) (c .field-2 .result .now) (c .field-3 .result .now) (c .in-Some .state) (m .0) (c .in-Continue-marks .marks) (c .in-Continue-counted .ensures tt)
-    (sym (c .in-Continue-in-stem .ensures tt) ∙ c .field .ensures) (c .field-name .ensures) (sym (s .1) ∙ c .field-2 .ensures) (sym (m .1) ∙ c .field-3 .ensures)
-    (c .if-not-is-name .ensures tt .0 refl) (s .0) read (not-true (c .in-Continue-marks .marks .declared) (c .if-not-marks .taken))
+    let s = c.in-Some.ensures in
+    let m = c.in-ok-marks.ensures in
+    let read = subst (λ (n : Names). MarksRead (names_of n) m.0 c.in-ok-marks.marks) c.props.ensures.is m.2 in
+    fault_unknown_mark (acts_of c.args.declared.now) (props_of c.args.declared.now) c.args.line.now c.in-ok-in-stem.in_stem
+    c.field-name.result.now c.field-2.result.now c.field-3.result.now c.in-Some.state m.0 c.in-ok-marks.marks c.in-ok-counted.ensures
+    (sym c.in-ok-in-stem.ensures ∙ c.field.ensures) c.field-name.ensures (sym s.1 ∙ c.field-2.ensures) (sym m.1 ∙ c.field-3.ensures)
+    (c.if-not-is-name.ensures.0 refl) s.0 read (not_true c.in-ok-marks.marks.declared c.if-not-marks.true)
 
-pub returns : need.returns
+pub returns : goal.returns
 returns c =
-    let s = c .in-Some .ensures tt in
-    let m = c .in-Continue-marks .ensures tt in
-    let read = subst (λ (n : Names). Marks-read (names-of n) (m .0) (c .in-Continue-marks .marks)) (c .props .ensures .is) (m .2) in
-    let num = subst (λ (n : Names). Number (names-of n) (c .field-name .result .now) (c .in-Some-find .action)) (c .acts .ensures .is) (c .in-Some-find .ensures tt .is) in
-    line-reads (acts-of (c .args .declared .now)) (props-of (c .args .declared .now)) (c .args .line .now) (c .in-Continue-in-stem .in-stem)
-    (c .field-name .result .now) (c .field-2 .result .now) (c .field-3 .result .now) (c .in-Some .state) (m .0) (c .in-Continue-marks .marks) (c .in-Continue-counted .ensures tt)
-    (sym (c .in-Continue-in-stem .ensures tt) ∙ c .field .ensures) (c .field-name .ensures) (sym (s .1) ∙ c .field-2 .ensures) (sym (m .1) ∙ c .field-3 .ensures)
-    (c .if-not-is-name .ensures tt .0 refl) (s .0) read (c .in-Some-find .action) num (not-false (c .in-Continue-marks .marks .declared) (c .if-not-marks .left))
+    let s = c.in-Some.ensures in
+    let m = c.in-ok-marks.ensures in
+    let read = subst (λ (n : Names). MarksRead (names_of n) m.0 c.in-ok-marks.marks) c.props.ensures.is m.2 in
+    let num = subst (λ (n : Names). Number (names_of n) c.field-name.result.now c.in-Some-find.action) c.acts.ensures.is c.in-Some-find.ensures.is in
+    line_reads (acts_of c.args.declared.now) (props_of c.args.declared.now) c.args.line.now c.in-ok-in-stem.in_stem
+    c.field-name.result.now c.field-2.result.now c.field-3.result.now c.in-Some.state m.0 c.in-ok-marks.marks c.in-ok-counted.ensures
+    (sym c.in-ok-in-stem.ensures ∙ c.field.ensures) c.field-name.ensures (sym s.1 ∙ c.field-2.ensures) (sym m.1 ∙ c.field-3.ensures)
+    (c.if-not-is-name.ensures.0 refl) s.0 read c.in-Some-find.action num (not-false c.in-ok-marks.marks.declared c.if-not-marks.false)

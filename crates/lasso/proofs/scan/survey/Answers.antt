@@ -1,24 +1,24 @@
-use Rattle·std.proofs.shelf.Tests.{ltb-true}
-use Rattle·lasso·specs.DeclaredNames.{acts-of, props-of}
-use Rattle·lasso·proofs.StepLines.{exit-at}
-use Rattle·lasso·proofs.Surveys.{passed-refused, passed-more, passed-all}
-use Rattle·lasso·proofs.scan.survey.Needs as need
+use Rattle.std.proofs.lemmas.Bool.{ltb-true}
+use Rattle.lasso.specs.DeclaredNames.{acts_of, props_of}
+use Rattle.lasso.proofs.StepLines.{exit_at}
+use Rattle.lasso.proofs.Surveys.{passed_refused, passed_more, passed_all}
+use Rattle.lasso.proofs.scan.survey.Goals as goal
 
-pub returns-in-Break-read : need.returns-in-Break-read
-returns-in-Break-read c =
-    let p = c .next-place-end .ensures in
-    let e = c .in-Break-read .ensures tt in
-    exit-at (c .from-residual .result) (c .in-Break-read .field-0 .0) _ _ (c .from-residual .ensures .1)
-    (passed-refused (acts-of (c .args .declared .now)) (props-of (c .args .declared .now)) (c .args .text .now) (c .loop-at .at) (c .next-place-end .result) (p .within .0) (c .loop-at .seen) (c .loop-at .inv)
-    (c .loop-at-test .taken) (p .within .1) (p .before) (p .here) _ _ (e .0) (e .1))
+pub returns-in-err-read : goal.returns-in-err-read
+returns-in-err-read c =
+    let p = c.next-place-end.ensures in
+    let e = c.in-err-read.ensures in
+    exit_at c.from-residual.result c.in-err-read.field-0.0 _ _ c.from-residual.ensures.1
+    (passed_refused (acts_of c.args.declared.now) (props_of c.args.declared.now) c.args.text.now c.loop-at.at c.next-place-end.result p.within.0 c.loop-at.seen c.loop-at.invariant
+    c.loop-at-test.true p.within.1 p.before p.here _ _ e.0 e.1)
 
-pub loop-at-again : need.loop-at-again
-loop-at-again c =
-    let p = c .next-place-end .ensures in
-    let e = c .in-Continue-read .ensures tt in
-    let l = ltb-true _ _ (e .0) in
-    passed-more (acts-of (c .args .declared .now)) (props-of (c .args .declared .now)) (c .args .text .now) (c .loop-at .at) (c .next-place-end .result) (p .within .0) (c .loop-at .seen) (c .loop-at .inv)
-    l (p .before) (p .here l) (c .in-Continue-read .read) (e .1) (c .with-seen .result) (c .with-seen .ensures)
+pub loop-at-preserved : goal.loop-at-preserved
+loop-at-preserved c =
+    let p = c.next-place-end.ensures in
+    let e = c.in-ok-read.ensures in
+    let l = ltb-true _ _ e.0 in
+    passed_more (acts_of c.args.declared.now) (props_of c.args.declared.now) c.args.text.now c.loop-at.at c.next-place-end.result p.within.0 c.loop-at.seen c.loop-at.invariant
+    l p.before (p.here l) c.in-ok-read.read e.1 c.with-seen.result c.with-seen.ensures
 
-pub returns : need.returns
-returns c = passed-all (acts-of (c .args .declared .now)) (props-of (c .args .declared .now)) (c .args .text .now) (c .loop-at .at) (c .loop-at .seen) (c .loop-at-test .left) (c .loop-at .inv)
+pub returns : goal.returns
+returns c = passed_all (acts_of c.args.declared.now) (props_of c.args.declared.now) c.args.text.now c.loop-at.at c.loop-at.seen c.loop-at-test.false c.loop-at.invariant

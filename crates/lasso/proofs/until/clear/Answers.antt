@@ -1,13 +1,8 @@
-use mathlib.Core.Logic.{_≢_}
-use Prim.Native.Nat.{_<_}
-use native.Mathlib.Omega.{arith}
-use borrow.Author.Count.{below-more}
-use lib.ListN.{length}
-use lib.Seq.{getD-set-same, getD-set-other}
-use Rattle·lasso·proofs.until.clear.Needs as need
+use Rattle.std.proofs.Common.{◌<◌, ◌≢◌, length, arith, get_or-set_other, get_or-set_same, below_more}
+use Rattle.lasso.proofs.until.clear.Goals as goal
 
-pub loop-w-again : need.loop-w-again
-loop-w-again c =
-    below-more _ _
-    (λ k h. let ne : k ≢ c .loop-w .w-index = omega arith in rw getD-set-other (c .loop-w .inv k h))
-    (let lt : c .loop-w .w-index < length (c .loop-w .words) = omega arith in rw getD-set-same)
+pub loop-w-preserved : goal.loop-w-preserved
+loop-w-preserved c =
+    below_more _ _
+    (λ k h. let ne : k ≢ c.loop-w.w-index = omega arith in rw get_or-set_other (c.loop-w.invariant k h))
+    (let lt : c.loop-w.w-index < length c.loop-w.words = omega arith in rw get_or-set_same)

@@ -1,32 +1,30 @@
-use mathlib.Core.Path.{sym, ap, _∙_, subst}
-use Prim.Native.Nat.{_+_}
-use native.Mathlib.Omega.{arith}
-use Rattle·program·specs.Steps.{stepped}
-use Rattle·program·specs.Text.{Fault-at}
-use Rattle·program·proofs.Columns.{goes-more, ends-whole, ends-early, ends-refused}
-use Rattle·program·proofs.check.check.Needs as need
-use Rattle·program·proofs.check.check.Needs.{then-at-text·else-is-whole as at-the-end, else-at-text·in-None as at-a-byte}
+use Rattle.std.proofs.Common.{◌+◌, sym, ap, ◌∙◌, subst, arith}
+use Rattle.program.specs.Steps.{stepped}
+use Rattle.program.specs.Text.{FaultAt}
+use Rattle.program.proofs.Columns.{goes_more, ends_whole, ends_early, ends_refused}
+use Rattle.program.proofs.check.check.Goals as goal
+use Rattle.program.proofs.check.check.Goals.{then-at-text+else-is-whole as at-the-end, else-at-text+in-None as at-a-byte}
 
-pub read-again : need.read-again
-read-again c = (
+pub read-preserved : goal.read-preserved
+read-preserved c = (
   omega arith,
-  goes-more (c .args .text .now) (c .read .at) (c .read .prefix) (c .in-Some .next) (omega arith) (c .read .inv .1)
-      (ap (stepped (c .read .prefix)) (sym (c .from .ensures)) ∙ sym (c .step .ensures) ∙ c .in-Some .is),
+  goes_more c.args.text.now c.read.at c.read.prefix c.in-Some.next (omega arith) c.read.invariant.1
+      (ap (stepped c.read.prefix) (sym c.from.ensures) ∙ sym c.step.ensures ∙ c.in-Some.is),
 )
 
-pub returns-then-is-whole : need.returns-then-is-whole
+pub returns-then-is-whole : goal.returns-then-is-whole
 returns-then-is-whole c =
-    ends-whole (c .args .text .now) (c .read .at) (c .read .prefix) (omega arith) (c .read .inv .1) (sym (c .is-whole .ensures) ∙ c .if-is-whole .taken)
+    ends_whole c.args.text.now c.read.at c.read.prefix (omega arith) c.read.invariant.1 (sym c.is-whole.ensures ∙ c.if-is-whole.true)
 
-pub returns : need.returns
+pub returns : goal.returns
 returns c =
-    let text = c .args .text .now in
-    elim (c .if-at-text .came) [
+    let text = c.args.text.now in
+    elim c.if-at-text.branch [
       | at-the-end w ↦
-          subst (λ v. Fault-at text (v + 1)) (sym (w .column-is))
-          (ends-early text (c .read .at) (c .read .prefix) (c .read .inv .0) (w .if-at-text .taken) (c .read .inv .1) (sym (w .is-whole .ensures) ∙ w .if-is-whole .left))
+          subst (λ v. FaultAt text (v + 1)) (sym w.column-is)
+          (ends_early text c.read.at c.read.prefix c.read.invariant.0 w.if-at-text.taken c.read.invariant.1 (sym w.is-whole.ensures ∙ w.if-is-whole.left))
       | at-a-byte w ↦
-          subst (λ v. Fault-at text (v + 1)) (sym (w .column-is))
-          (ends-refused text (c .read .at) (c .read .prefix) (w .if-at-text .left) (c .read .inv .1)
-          (ap (stepped (c .read .prefix)) (sym (w .from .ensures)) ∙ sym (w .step .ensures) ∙ w .in-None .is))
+          subst (λ v. FaultAt text (v + 1)) (sym w.column-is)
+          (ends_refused text c.read.at c.read.prefix w.if-at-text.left c.read.invariant.1
+          (ap (stepped c.read.prefix) (sym w.from.ensures) ∙ sym w.step.ensures ∙ w.in-None.is))
     ]

@@ -1,22 +1,19 @@
-use mathlib.Core.Path.{sym, _∙_}
-use mathlib.Core.List.{[], map}
-use native.Mathlib.Omega.{arith}
+use Rattle.std.proofs.Common.{[], map, sym, ◌∙◌, arith, below_more}
 use lib.ListN.{length-map}
-use borrow.Author.Count.{below-more}
-use Rattle·std.proofs.shelf.Lists.{getD-map}
-use Rattle·std.proofs.shelf.Tests.{both-ways}
-use Rattle·program·specs.Names.{spelled, Absent}
-use Rattle·program·proofs.name.find.Needs as need
+use Rattle.std.proofs.lemmas.List.{get_or-map}
+use Rattle.std.proofs.lemmas.Bool.{both_ways}
+use Rattle.program.specs.Names.{spelled, Absent}
+use Rattle.program.proofs.name.find.Goals as goal
 
-pub returns-then-is : need.returns-then-is
+pub returns-then-is : goal.returns-then-is
 returns-then-is c =
-    let long = length-map (c .args .names .now) spelled in
-    (omega arith, getD-map spelled (c .args .names .now) (c .loop-i .i) _ [] (c .loop-i-test .taken) ∙ c .is .ensures .0 (c .if-is .taken), c .loop-i .inv)
+    let long = length-map c.args.names.now spelled in
+    (omega arith, get_or-map spelled c.args.names.now c.loop-i.i _ [] c.loop-i-test.true ∙ c.is.ensures.0 c.if-is.true, c.loop-i.invariant)
 
-pub loop-i-again : need.loop-i-again
-loop-i-again c =
-    below-more _ (c .loop-i .i) (c .loop-i .inv)
-    (λ e. both-ways (c .is .result) (c .if-is .left) (c .is .ensures .1 (sym (getD-map spelled (c .args .names .now) (c .loop-i .i) _ [] (c .loop-i-test .taken)) ∙ e)))
+pub loop-i-preserved : goal.loop-i-preserved
+loop-i-preserved c =
+    below_more _ c.loop-i.i c.loop-i.invariant
+    (λ e. both_ways c.is.result c.if-is.false (c.is.ensures.1 (sym (get_or-map spelled c.args.names.now c.loop-i.i _ [] c.loop-i-test.true) ∙ e)))
 
-pub returns : need.returns
-returns c = λ k h e. let long = length-map (c .args .names .now) spelled in c .loop-i .inv k (omega arith) e
+pub returns : goal.returns
+returns c = λ k h e. let long = length-map c.args.names.now spelled in c.loop-i.invariant k (omega arith) e

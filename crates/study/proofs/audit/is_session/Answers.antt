@@ -1,19 +1,16 @@
-use borrow.Author.Count.{below-more}
-use mathlib.Core.Path.{_≡_, refl, sym, subst}
-use native.Mathlib.Omega.{arith}
-use lib.ListN.{length}
-use Rattle·lasso.specs.Lassos.{stepAt}
-use Rattle·lasso.specs.Rounds.{next-place}
-use Rattle·study·specs.Sessions.{Step-goes}
-use Rattle·study·proofs.audit.is_session.Needs as need
+use Rattle.std.proofs.Common.{◌≡◌, length, sym, refl, subst, arith, below_more}
+use Rattle.lasso.specs.Lassos.{step_in}
+use Rattle.lasso.specs.Rounds.{next_place}
+use Rattle.study.specs.Sessions.{StepGoes}
+use Rattle.study.proofs.audit.is_session.Goals as goal
 
-pub loop-i-again : need.loop-i-again
-loop-i-again g c =
-    let m = g .S·System .meaning (c .args .system) in
-    let d = c .args .declared in
-    let xs = c .args .steps .now in
-    below-more (λ k. Step-goes m d (stepAt xs k) (stepAt xs (next-place (length xs) (c .args .stem) k) .state)) (c .loop-i .i) (c .loop-i .inv)
-    (subst (λ n. Step-goes m d (stepAt xs (c .loop-i .i)) (stepAt xs n .state)) (c .after .ensures .is) (c .if-not-step-goes .ensures tt .0 refl))
+pub loop-i-preserved : goal.loop-i-preserved
+loop-i-preserved g c =
+    let m = g.S.System.meaning c.args.system in
+    let d = c.args.declared in
+    let xs = c.args.steps.now in
+    below_more (λ k. StepGoes m d (step_in xs k) (step_in xs (next_place (length xs) c.args.stem k)).state) c.loop-i.i c.loop-i.invariant
+    (subst (λ n. StepGoes m d (step_in xs c.loop-i.i) (step_in xs n).state) c.after.ensures.is (c.if-not-step-goes.ensures.0 refl))
 
-pub returns : need.returns
-returns g c = (λ _. record { begins = sym (c .if-not-starts .ensures tt); each = λ i h. c .loop-i .inv i (omega arith) }, λ _. refl)
+pub returns : goal.returns
+returns g c = (λ _. record { begins = sym c.if-not-starts.ensures; each = λ i h. c.loop-i.invariant i (omega arith) }, λ _. refl)

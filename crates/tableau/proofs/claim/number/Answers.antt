@@ -1,8 +1,8 @@
-use Rattle·tableau·specs.Meant.{meant}
-use Rattle·tableau·proofs.claim.number.Needs as need
-use Rattle·tableau·proofs.Numbering.{number-fits}
+use Rattle.tableau.specs.Meant.{meant}
+use Rattle.tableau.proofs.claim.number.Goals as goal
+use Rattle.tableau.proofs.Numbering.{number_fits}
 
-pub returns : need.returns
+pub returns : goal.returns
 returns c = λ d s k.
-    number-fits (c .args .declared .now) d s (meant (c .args .claim)) k (c .speaks-of .result) (c .base-base .result) (c .place-in .result)
-    (c .speaks-of .ensures) (c .base-base .ensures .is) (c .place-in .ensures .is d s k)
+    number_fits c.args.declared.now d s (meant c.args.claim) k c.speaks-of.result c.base-base.result c.place-in.result
+    c.speaks-of.ensures c.base-base.ensures.is (c.place-in.ensures.is d s k)

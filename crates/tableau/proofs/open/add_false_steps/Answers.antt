@@ -1,67 +1,63 @@
-use mathlib.Core.Path.{_≡_, sym, subst, ap, _∙_}
-use mathlib.Core.Bool.{true}
-use Prim.Native.Nat.{_+_}
-use native.Mathlib.Omega.{arith}
-use borrow.Author.Needs.{needs}
-use Rattle·std.proofs.shelf.Tests.{both-ways}
-use Rattle·tableau·specs.Calculus.{calculus}
-use Rattle·tableau·specs.Claims.{member}
-use Rattle·tableau·specs.Handing.{Any, From, Added, Hands}
-use Rattle·tableau·specs.Numbers.{State-of}
-use Rattle·tableau·specs.Walk.{on}
-use Rattle·tableau·proofs.Handed.{Below, added-none, added-like, added-more, added-skip, added-all, clashed-weaken, clashed-more}
-use Rattle·tableau·proofs.open.add_false_steps.Needs as need
-use Rattle·tableau·proofs.open.add_false_steps.Needs.{then-contains·in-Continue-all, else-contains}
+use Rattle.std.proofs.Common.{◌≡◌, ◌+◌, true, sym, ap, ◌∙◌, subst, arith, rules}
+use Rattle.std.proofs.lemmas.Bool.{both_ways}
+use Rattle.tableau.specs.Calculus.{calculus}
+use Rattle.tableau.specs.Claims.{member}
+use Rattle.tableau.specs.Handing.{Any, From, Added, Hands}
+use Rattle.tableau.specs.Numbers.{StateOf}
+use Rattle.tableau.specs.Walk.{on}
+use Rattle.tableau.proofs.Handed.{Below, added_none, added_like, added_more, added_skip, added_all, clashed_weaken, clashed_more}
+use Rattle.tableau.proofs.open.add_false_steps.Goals as goal
+use Rattle.tableau.proofs.open.add_false_steps.Goals.{then-contains+in-ok-all, else-contains}
 
-pub loop-q-holds : need.loop-q-holds
-loop-q-holds c = (c .pre, λ d shows there fated lt fine. added-none (calculus d (c .args .rules .phase)) (From d (c .args .node .now) (c .args .e)) (on (c .args .trail .now)) fine)
+pub loop-q-init : goal.loop-q-init
+loop-q-init c = (c.requires, λ d shows there fated lt fine. added_none (calculus d c.args.rules.phase) (From d c.args.node.now c.args.e) (on c.args.trail.now) fine)
 
-pub loop-q-again : need.loop-q-again
-loop-q-again c = elim (c .if-contains .came) [
-  | then-contains·in-Continue-all w ↦ (
-    search needs,
+pub loop-q-preserved : goal.loop-q-preserved
+loop-q-preserved c = elim c.if-contains.branch [
+  | then-contains+in-ok-all w ↦ (
+    search rules,
     λ d shows there fated lt fine.
-        let m = calculus d (c .args .rules .phase) in
-        let part = From d (c .args .node .now) (c .args .e) in
-        let q = c .loop-q .q in
-        let inv = c .loop-q .inv .1 d shows there fated lt fine in
-        let count = c .states-of-q-end .ensures .is d shows there fated in
-        let state : State-of d (c .args .e) q = record { there = there; fated = fated; known = omega (arith, count, c .loop-q-test .taken) } in
-        let claimed = subst (λ v. member (c .args .node .now .claims .words) v ≡ true) (c .number .ensures d shows state) (sym (c .contains .ensures) ∙ w .if-contains .taken) in
-        let one = added-like (part q) (λ y. (λ h. h .1, λ h. ((state, claimed), h))) (w .in-Continue-all .ensures tt .hands d shows state lt (inv .fine)) in
-        subst (λ v. Added m (Below part (q + 1)) (on (c .args .trail .now)) (on v)) (sym (w .trail-is)) (added-more part q inv one),
+        let m = calculus d c.args.rules.phase in
+        let part = From d c.args.node.now c.args.e in
+        let q = c.loop-q.q in
+        let inv = c.loop-q.invariant.1 d shows there fated lt fine in
+        let count = c.states-of-q-end.ensures.is d shows there fated in
+        let state : StateOf d c.args.e q = record { there = there; fated = fated; known = omega (arith, count, c.loop-q-test.true) } in
+        let claimed = subst (λ v. member c.args.node.now.claims.words v ≡ true) (c.number.ensures d shows state) (sym c.contains.ensures ∙ w.if-contains.true) in
+        let one = added_like (part q) (λ y. (λ h. h.1, λ h. ((state, claimed), h))) (w.in-ok-all.ensures.hands d shows state lt inv.fine) in
+        subst (λ v. Added m (Below part (q + 1)) (on c.args.trail.now) (on v)) (sym w.trail-is) (added_more part q inv one),
   )
   | else-contains w ↦ (
-    search needs,
+    search rules,
     λ d shows there fated lt fine.
-        let m = calculus d (c .args .rules .phase) in
-        let part = From d (c .args .node .now) (c .args .e) in
-        let q = c .loop-q .q in
-        subst (λ v. Added m (Below part (q + 1)) (on (c .args .trail .now)) (on v)) (sym (w .trail-is))
-        (added-skip part q (λ y h. both-ways (c .contains .result) (w .if-contains .left) (c .contains .ensures ∙ ap (member (c .args .node .now .claims .words)) (c .number .ensures d shows (h .0 .0)) ∙ h .0 .1)) (c .loop-q .inv .1 d shows there fated lt fine)),
+        let m = calculus d c.args.rules.phase in
+        let part = From d c.args.node.now c.args.e in
+        let q = c.loop-q.q in
+        subst (λ v. Added m (Below part (q + 1)) (on c.args.trail.now) (on v)) (sym w.trail-is)
+        (added_skip part q (λ y h. both_ways c.contains.result w.if-contains.false (c.contains.ensures ∙ ap (member c.args.node.now.claims.words) (c.number.ensures d shows h.0.0) ∙ h.0.1)) (c.loop-q.invariant.1 d shows there fated lt fine)),
   )
 ]
 
-pub returns-in-Break-all : need.returns-in-Break-all
-returns-in-Break-all c = record {
-  stands = search needs;
+pub returns-in-err-all : goal.returns-in-err-all
+returns-in-err-all c = record {
+  stands = search rules;
   hands = λ d shows there fated lt fine.
-      let m = calculus d (c .args .rules .phase) in
-      let part = From d (c .args .node .now) (c .args .e) in
-      let q = c .loop-q .q in
-      let inv = c .loop-q .inv .1 d shows there fated lt fine in
-      let count = c .states-of-q-end .ensures .is d shows there fated in
-      let state : State-of d (c .args .e) q = record { there = there; fated = fated; known = omega (arith, count, c .loop-q-test .taken) } in
-      let claimed = subst (λ v. member (c .args .node .now .claims .words) v ≡ true) (c .number .ensures d shows state) (sym (c .contains .ensures) ∙ c .if-contains .taken) in
-      let one = clashed-weaken (part q) (λ y h. ((state, claimed), h)) (c .in-Break-all .ensures tt .hands d shows state lt (inv .fine)) in
-      subst (Hands m (Any part) (on (c .args .trail .now)) (on (c .add-targets .last .trail))) (sym (c .from-residual .ensures)) (clashed-more part q inv one);
+      let m = calculus d c.args.rules.phase in
+      let part = From d c.args.node.now c.args.e in
+      let q = c.loop-q.q in
+      let inv = c.loop-q.invariant.1 d shows there fated lt fine in
+      let count = c.states-of-q-end.ensures.is d shows there fated in
+      let state : StateOf d c.args.e q = record { there = there; fated = fated; known = omega (arith, count, c.loop-q-test.true) } in
+      let claimed = subst (λ v. member c.args.node.now.claims.words v ≡ true) (c.number.ensures d shows state) (sym c.contains.ensures ∙ c.if-contains.true) in
+      let one = clashed_weaken (part q) (λ y h. ((state, claimed), h)) (c.in-err-all.ensures.hands d shows state lt inv.fine) in
+      subst (Hands m (Any part) (on c.args.trail.now) (on c.add-targets.new.trail)) (sym c.from-residual.ensures) (clashed_more part q inv one);
 }
 
-pub returns : need.returns
+pub returns : goal.returns
 returns c = record {
-  stands = c .loop-q .inv .0;
+  stands = c.loop-q.invariant.0;
   hands = λ d shows there fated lt fine.
-      let count = c .states-of-q-end .ensures .is d shows there fated in
-      added-all (From d (c .args .node .now) (c .args .e)) (c .loop-q .q) (λ q y h. let known = h .0 .0 .known in omega (arith, count, known, c .loop-q-test .left))
-      (c .loop-q .inv .1 d shows there fated lt fine);
+      let count = c.states-of-q-end.ensures.is d shows there fated in
+      added_all (From d c.args.node.now c.args.e) c.loop-q.q (λ q y h. let known = h.0.0.known in omega (arith, count, known, c.loop-q-test.false))
+      (c.loop-q.invariant.1 d shows there fated lt fine);
 }

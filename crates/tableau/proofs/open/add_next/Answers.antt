@@ -1,43 +1,40 @@
-use mathlib.Core.Path.{_≡_, sym, subst, ap, _∙_}
-use mathlib.Core.Bool.{true}
-use Prim.Native.Nat.{ℕ}
-use borrow.Author.Needs.{needs}
-use Rattle·tableau·specs.Calculus.{calculus}
-use Rattle·tableau·specs.Claims.{member}
-use Rattle·tableau·specs.Graphs.{Sign, Sign.T, form}
-use Rattle·tableau·specs.Handing.{Operand, Hands}
-use Rattle·tableau·specs.Numbers.{is-until, Claim-of}
-use Rattle·tableau·specs.Walk.{on}
-use Rattle·tableau·proofs.Handed.{clashed-weaken, hands-after}
-use Rattle·tableau·proofs.Parts.{operand-there, next-parts}
-use Rattle·tableau·proofs.open.add_next.Needs as need
+use Rattle.std.proofs.Common.{◌≡◌, ℕ, true, sym, ap, ◌∙◌, subst, rules}
+use Rattle.tableau.specs.Calculus.{calculus}
+use Rattle.tableau.specs.Claims.{member}
+use Rattle.tableau.specs.Graphs.{Sign, Sign.T, form}
+use Rattle.tableau.specs.Handing.{Operand, Hands}
+use Rattle.tableau.specs.Numbers.{is_until, ClaimOf}
+use Rattle.tableau.specs.Walk.{on}
+use Rattle.tableau.proofs.Handed.{clashed_weaken, hands_after}
+use Rattle.tableau.proofs.Parts.{operand_there, next_parts}
+use Rattle.tableau.proofs.open.add_next.Goals as goal
 
-pub returns-in-Break-all : need.returns-in-Break-all
-returns-in-Break-all c = record {
-  stands = search needs;
+pub returns-in-err-all : goal.returns-in-err-all
+returns-in-err-all c = record {
+  stands = search rules;
   hands = λ d shows there is fine.
-      let m = calculus d (c .args .rules .phase) in
-      let claim : Claim-of d (form T (c .args .e)) = (there, ap is-until is) in
-      let claimed = c .contains-claimed .ensures ∙ ap (member (c .args .node .now .claims .words)) (c .number .ensures d shows claim) in
-      let f-there = operand-there d (c .args .e) (c .args .node .now .action) (c .args .f) (shows .good) there is in
-      let S : ℕ → Type 0 = λ y. (s : Sign) × Operand d (c .args .node .now) (c .args .rules .phase) (c .args .e) (c .args .f) s y in
-      subst (Hands m S (on (c .args .trail .now)) (on (c .add-if .last .trail))) (sym (c .from-residual .ensures))
-      (clashed-weaken S (λ y h. (T, ((claim, sym claimed ∙ h .0), h .1 ∙ c .true-form .ensures d shows f-there))) (c .in-Break-all .ensures tt .hands d shows fine));
+      let m = calculus d c.args.rules.phase in
+      let claim : ClaimOf d (form T c.args.e) = (there, ap is_until is) in
+      let claimed = c.contains-claimed.ensures ∙ ap (member c.args.node.now.claims.words) (c.number.ensures d shows claim) in
+      let f-there = operand_there d c.args.e c.args.node.now.action c.args.f shows.good there is in
+      let S : ℕ → Type 0 = λ y. (s : Sign) × Operand d c.args.node.now c.args.rules.phase c.args.e c.args.f s y in
+      subst (Hands m S (on c.args.trail.now) (on c.add-if.new.trail)) (sym c.from-residual.ensures)
+      (clashed_weaken S (λ y h. (T, ((claim, sym claimed ∙ h.0), h.1 ∙ c.true_form.ensures d shows f-there))) (c.in-err-all.ensures.hands d shows fine));
 }
 
-pub returns : need.returns
+pub returns : goal.returns
 returns c = record {
-  stands = search needs;
+  stands = search rules;
   hands = λ d shows there is fine.
-      let m = calculus d (c .args .rules .phase) in
-      let words = c .args .node .now .claims .words in
-      let claim : Claim-of d (form T (c .args .e)) = (there, ap is-until is) in
-      let f-there = operand-there d (c .args .e) (c .args .node .now .action) (c .args .f) (shows .good) there is in
-      let claimed = c .contains-claimed .ensures ∙ ap (member words) (c .number .ensures d shows claim) in
-      let denied = c .contains-denied .ensures ∙ ap (member words) (c .number-2 .ensures d shows claim) in
-      let first = c .in-Continue-all .ensures tt .hands d shows fine in
-      hands-after m (λ y. (c .contains-claimed .result ≡ true) × (y ≡ c .true-form .result)) (λ y. (c .contains-denied .result ≡ true) × (y ≡ c .false-form .result)) (λ y. (s : Sign) × Operand d (c .args .node .now) (c .args .rules .phase) (c .args .e) (c .args .f) s y)
-      (on (c .args .trail .now)) (on (c .add-if .last .trail)) (on (c .add-if-2 .last .trail)) (c .add-if-2 .result)
-      (next-parts d (c .args .node .now) (c .args .rules .phase) (c .args .e) (c .args .f) (c .contains-claimed .result) (c .contains-denied .result) (c .true-form .result) (c .false-form .result) claim claimed denied (c .true-form .ensures d shows f-there) (c .false-form .ensures d shows f-there))
-      first (c .add-if-2 .ensures .hands d shows (first .fine));
+      let m = calculus d c.args.rules.phase in
+      let words = c.args.node.now.claims.words in
+      let claim : ClaimOf d (form T c.args.e) = (there, ap is_until is) in
+      let f-there = operand_there d c.args.e c.args.node.now.action c.args.f shows.good there is in
+      let claimed = c.contains-claimed.ensures ∙ ap (member words) (c.number.ensures d shows claim) in
+      let denied = c.contains-denied.ensures ∙ ap (member words) (c.number-2.ensures d shows claim) in
+      let first = c.in-ok-all.ensures.hands d shows fine in
+      hands_after m (λ y. (c.contains-claimed.result ≡ true) × (y ≡ c.true_form.result)) (λ y. (c.contains-denied.result ≡ true) × (y ≡ c.false-form.result)) (λ y. (s : Sign) × Operand d c.args.node.now c.args.rules.phase c.args.e c.args.f s y)
+      (on c.args.trail.now) (on c.add-if.new.trail) (on c.add-if-2.new.trail) c.add-if-2.result
+      (next_parts d c.args.node.now c.args.rules.phase c.args.e c.args.f c.contains-claimed.result c.contains-denied.result c.true_form.result c.false-form.result claim claimed denied (c.true_form.ensures d shows f-there) (c.false-form.ensures d shows f-there))
+      first (c.add-if-2.ensures.hands d shows first.fine);
 }

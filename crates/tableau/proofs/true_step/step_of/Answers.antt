@@ -1,25 +1,23 @@
-use mathlib.Core.Path.{_≡_, sym, _∙_}
-use Prim.Native.Nat.{ℕ}
-use native.Mathlib.Omega.{arith}
-use Rattle·tableau·specs.Graphs.{step-true}
-use Rattle·tableau·specs.Meant.{meant}
-use Rattle·tableau·specs.declared.claim.Claim.{Claim}
-use Rattle·tableau·specs.declared.claim.Claim.the-variants.{True, False, TrueUntil, FalseUntil, TrueStep, FalseStep}
-use Rattle·tableau·proofs.true_step.step_of.Needs as need
-use Rattle·tableau·proofs.Numbering.{one-number}
+use Rattle.std.proofs.Common.{◌≡◌, ℕ, sym, ◌∙◌, arith}
+use Rattle.tableau.specs.Graphs.{step_true}
+use Rattle.tableau.specs.Meant.{meant}
+use Rattle.tableau.specs.declared.claim.Claim.{Claim}
+use Rattle.tableau.specs.declared.claim.Claim.TheVariants.{True, False, TrueUntil, FalseUntil, TrueStep, FalseStep}
+use Rattle.tableau.proofs.true_step.step_of.Goals as goal
+use Rattle.tableau.proofs.Numbering.{one_number}
 
-meant-step : (m : Claim) (e q l : ℕ) → meant m ≡ step-true e q l → m ≡ TrueStep e q l
-meant-step (True h) e q l is = absurd (let z : _≡_ {A = ℕ} 0 1 = cc in omega arith)
-meant-step (False h) e q l is = absurd (let z : _≡_ {A = ℕ} 0 1 = cc in omega arith)
-meant-step (TrueUntil h r i) e q l is = absurd (let z : _≡_ {A = ℕ} 0 1 = cc in omega arith)
-meant-step (FalseUntil h r) e q l is = absurd (let z : _≡_ {A = ℕ} 0 1 = cc in omega arith)
-meant-step (TrueStep h r i) e q l is = cc
-meant-step (FalseStep h r) e q l is = absurd (let z : _≡_ {A = ℕ} 0 1 = cc in omega arith)
+meant_step : (m : Claim) (e q l : ℕ) → meant m ≡ step_true e q l → m ≡ TrueStep e q l
+meant_step (True h) e q l is = absurd (let z : ◌≡◌ {A = ℕ} 0 1 = cc in omega arith)
+meant_step (False h) e q l is = absurd (let z : ◌≡◌ {A = ℕ} 0 1 = cc in omega arith)
+meant_step (TrueUntil h r i) e q l is = absurd (let z : ◌≡◌ {A = ℕ} 0 1 = cc in omega arith)
+meant_step (FalseUntil h r) e q l is = absurd (let z : ◌≡◌ {A = ℕ} 0 1 = cc in omega arith)
+meant_step (TrueStep h r i) e q l is = cc
+meant_step (FalseStep h r) e q l is = absurd (let z : ◌≡◌ {A = ℕ} 0 1 = cc in omega arith)
 
-pub returns-in-rest : need.returns-in-rest
-returns-in-rest c = record {
+pub returns-in-default : goal.returns-in-default
+returns-in-default c = record {
   number = tt;
   step = λ d s e q l own is.
-      let k = c .in-Continue-claim .ensures tt d s in
-      c .in-rest .not-TrueStep e q l (meant-step (c .in-Continue-claim .claim) e q l (one-number d (meant (c .in-Continue-claim .claim)) (step-true e q l) (k .0) own (k .1 ∙ sym is)));
+      let k = c.in-ok-claim.ensures d s in
+      c.in-default.not-TrueStep e q l (meant_step c.in-ok-claim.claim e q l (one_number d (meant c.in-ok-claim.claim) (step_true e q l) k.0 own (k.1 ∙ sym is)));
 }

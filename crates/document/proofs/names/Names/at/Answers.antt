@@ -1,7 +1,6 @@
-use mathlib.Core.Path.{sym}
-use native.Mathlib.Omega.{arith}
-use Rattle·document·proofs.Spellings.{getD-spellings}
-use Rattle·document·proofs.names.Names.at.Needs as need
+use Rattle.std.proofs.Common.{sym, arith}
+use Rattle.document.proofs.Spellings.{get_d_spellings}
+use Rattle.document.proofs.names.Names.at.Goals as goal
 
-pub returns-then-i-self : need.returns-then-i-self
-returns-then-i-self c = let n = c .args .self .now in λ less. sym (getD-spellings (n .count) (n .list) (c .args .i) _ (omega arith) less)
+pub returns-then-i-self : goal.returns-then-i-self
+returns-then-i-self c = let n = c.args.self.now in λ less. sym (get_d_spellings n.count n.list c.args.i _ (omega arith) less)

@@ -1,9 +1,8 @@
-use mathlib.Core.Path.{refl}
-use native.Mathlib.Omega.{arith}
-use Rattle·document·proofs.Spellings.{length-spellings}
-use Rattle·document·proofs.names.Names.count.Needs as need
+use Rattle.std.proofs.Common.{refl, arith}
+use Rattle.document.proofs.Spellings.{length_spellings}
+use Rattle.document.proofs.names.Names.count.Goals as goal
 
-pub returns : need.returns
+pub returns : goal.returns
 returns c =
-    let n = c .args .self .now in
-    record { is = refl; few = omega arith; long = length-spellings (n .count) (n .list) (omega arith) }
+    let n = c.args.self.now in
+    record { is = refl; few = omega arith; long = length_spellings n.count n.list (omega arith) }

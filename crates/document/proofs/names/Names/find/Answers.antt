@@ -1,16 +1,13 @@
-use mathlib.Core.Path.{subst}
-use Prim.Native.Nat.{_-_}
-use native.Mathlib.Omega.{arith}
+use Rattle.std.proofs.Common.{◌-◌, subst, arith, MatchOption}
 use native.Mathlib.Nat.{sub-zero}
-use Rattle·std.specs.Options.{Cases}
-use Rattle·program.specs.Names.{Missing, Number}
-use Rattle·document·specs.NameLists.{spellings}
-use Rattle·document·proofs.Spellings.{number-below}
-use Rattle·document·proofs.names.Names.find.Needs as need
+use Rattle.program.specs.Names.{Missing, Number}
+use Rattle.document.specs.NameLists.{spellings}
+use Rattle.document.proofs.Spellings.{number_below}
+use Rattle.document.proofs.names.Names.find.Goals as goal
 
-pub returns : need.returns
+pub returns : goal.returns
 returns c =
-    let n = c .args .self .now in
-    let said : Cases (c .find .result) (Missing (spellings (n .count) (n .list)) (c .args .field .now)) (λ i. Number (spellings (n .count) (n .list)) (c .args .field .now) i) =
-    subst (λ k. Cases (c .find .result) (Missing (spellings k (n .list)) (c .args .field .now)) (λ i. Number (spellings k (n .list)) (c .args .field .now) i)) (sub-zero (n .count)) (c .find .ensures) in
-    record { within = number-below (c .find .result) (n .count) (n .list) (c .args .field .now) (omega arith) said; is = said }
+    let n = c.args.self.now in
+    let said : MatchOption c.find.result (Missing (spellings n.count n.list) c.args.field.now) (λ i. Number (spellings n.count n.list) c.args.field.now i) =
+    subst (λ k. MatchOption c.find.result (Missing (spellings k n.list) c.args.field.now) (λ i. Number (spellings k n.list) c.args.field.now i)) (sub-zero n.count) c.find.ensures in
+    record { within = number_below c.find.result n.count n.list c.args.field.now (omega arith) said; is = said }

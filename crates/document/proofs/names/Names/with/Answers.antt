@@ -1,9 +1,8 @@
-use mathlib.Core.Path.{refl}
-use native.Mathlib.Omega.{arith}
-use Rattle·document·proofs.Spellings.{spellings-push}
-use Rattle·document·proofs.names.Names.with.Needs as need
+use Rattle.std.proofs.Common.{refl, arith}
+use Rattle.document.proofs.Spellings.{spellings_push}
+use Rattle.document.proofs.names.Names.with.Goals as goal
 
-pub returns : need.returns
+pub returns : goal.returns
 returns c =
-    let n = c .args .self in
-    record { count = refl; names = spellings-push (n .count) (n .list) (c .args .name) (omega arith) }
+    let n = c.args.self in
+    record { count = refl; names = spellings_push n.count n.list c.args.name (omega arith) }

@@ -1,37 +1,34 @@
-use mathlib.Core.Logic.{_⊎_, inl, inr}
-use mathlib.Core.Path.{_≡_}
-use mathlib.Core.Bool.{true, false}
-use native.Mathlib.Omega.{arith}
-use Rattle·program·proofs.Glushkov.{accepts-its-words}
-use Rattle·program·proofs.Machine.{Made, steps-low, ends-low, automaton-of, accepts-words-of}
-use Rattle·program·proofs.States.{accepts-by-parts, nullable-is-empty}
-use Rattle·program·proofs.automaton.Automaton.new.Needs as need
-use Rattle·program·proofs.automaton.Automaton.new.Needs.{Joined-row, then-row, else-row}
+use Rattle.std.proofs.Common.{◌≡◌, true, false, ◌⊎◌, inl, inr, arith}
+use Rattle.program.proofs.Glushkov.{accepts_its_words}
+use Rattle.program.proofs.Machine.{Made, steps_low, ends_low, automaton_of, accepts_words_of}
+use Rattle.program.proofs.States.{accepts_by_parts, nullable_is_empty}
+use Rattle.program.proofs.automaton.Automaton.new.Goals as goal
+use Rattle.program.proofs.automaton.Automaton.new.Goals.{Joined-row, then-row, else-row}
 
-made : (c : Joined-row) → Made (c .args .row .now) (c .states-states .result) (c .loop-i .next) (c .named-named .result) (c .all-of-all .result) (c .if-row .start)
+made : (c : Joined-row) → Made c.args.row.now c.states-states.result c.loop-i.next c.named-named.result c.all-of-all.result c.if-row.start
 made c =
-    let start = c .if-row .start in
-    let empty = c .args .row .now .nullable in
+    let start = c.if-row.start in
+    let empty = c.args.row.now.nullable in
     let how : ((start ≡ 1) × (empty ≡ true)) ⊎ ((start ≡ 0) × (empty ≡ false)) =
-    elim (c .if-row .came) [ then-row w ↦ inl (w .start-is, w .if-row .taken) | else-row w ↦ inr (w .start-is, w .if-row .left) ] in
+    elim c.if-row.branch [ then-row w ↦ inl (w.start-is, w.if-row.true) | else-row w ↦ inr (w.start-is, w.if-row.false) ] in
     record {
-      count = c .states-states .ensures .count;
-      mask = c .all-of-all .ensures;
-      long = c .loop-i .inv .0;
-      by = c .named-named .ensures;
-      zeroth = c .loop-i .inv .1;
-      others = λ i k l h. c .loop-i .inv .2 i k l (omega arith);
+      count = c.states-states.ensures.count;
+      mask = c.all-of-all.ensures;
+      long = c.loop-i.invariant.0;
+      by = c.named-named.ensures;
+      zeroth = c.loop-i.invariant.1;
+      others = λ i k l h. c.loop-i.invariant.2 i k l (omega arith);
       starts = how;
     }
 
-pub ghost-result : need.ghost-result
-ghost-result c = let m = made (need.at·ghost-result c .Joined-row) in (omega arith, (ends-low m, (steps-low m, tt)))
+pub invariant-of-result : goal.invariant-of-result
+invariant-of-result c = let m = made (goal.at.invariant-of-result c).Joined-row in (omega arith, (ends_low m, (steps_low m, tt)))
 
-pub returns : need.returns
+pub returns : goal.returns
 returns c =
-    let m = made (need.at·returns c .Joined-row) in
+    let m = made (goal.at.returns c).Joined-row in
     record {
-      made = automaton-of m;
-      words = λ p is. accepts-words-of p _ _ _ (automaton-of m p is);
-      laws = (accepts-its-words, (accepts-by-parts, nullable-is-empty));
+      made = automaton_of m;
+      words = λ p is. accepts_words_of p _ _ _ (automaton_of m p is);
+      laws = (accepts_its_words, (accepts_by_parts, nullable_is_empty));
     }

@@ -1,18 +1,15 @@
-use mathlib.Core.Path.{sym}
-use Prim.Native.Nat.{_<_}
-use native.Mathlib.Omega.{arith}
-use lib.ListN.{length-take}
-use Rattle·std.proofs.shelf.Lists.{getD-take, getD-past}
-use Rattle·program·specs.Names.{spelled}
-use Rattle·program·proofs.name.Name.byte.Needs as need
+use Rattle.std.proofs.Common.{◌<◌, sym, arith, length-take}
+use Rattle.std.proofs.lemmas.List.{get_or-take, get_or_past}
+use Rattle.program.specs.Names.{spelled}
+use Rattle.program.proofs.name.Name.byte.Goals as goal
 
-pub index-self-k : need.index-self-k
-index-self-k c = omega (arith, simp length-take at (c .len .ensures))
+pub bounds-self-k : goal.bounds-self-k
+bounds-self-k c = omega (arith, simp length-take at c.len.ensures)
 
-pub returns-then-k-len : need.returns-then-k-len
+pub returns-then-k-len : goal.returns-then-k-len
 returns-then-k-len c =
-    let lt : c .args .k < c .args .self .now .len = omega (arith, simp length-take at (c .len .ensures)) in
-    sym (getD-take (c .args .self .now .len) (c .args .self .now .bytes) (c .args .k) 0 lt)
+    let lt : c.args.k < c.args.self.now.len = omega (arith, simp length-take at c.len.ensures) in
+    sym (get_or-take c.args.self.now.len c.args.self.now.bytes c.args.k 0 lt)
 
-pub returns-else-k-len : need.returns-else-k-len
-returns-else-k-len c = sym (getD-past (spelled (c .args .self .now)) (c .args .k) 0 (omega arith))
+pub returns-else-k-len : goal.returns-else-k-len
+returns-else-k-len c = sym (get_or_past (spelled c.args.self.now) c.args.k 0 (omega arith))

@@ -1,9 +1,8 @@
-use mathlib.Core.Path.{refl}
-use native.Mathlib.Omega.{arith}
-use Rattle·std.proofs.shelf.Lists.{ext-getD}
-use Rattle·program·specs.Names.{spelled}
-use Rattle·program·proofs.name.Name.is.Needs as need
+use Rattle.std.proofs.Common.{refl, arith}
+use Rattle.std.proofs.lemmas.List.{ext_get_or}
+use Rattle.program.specs.Names.{spelled}
+use Rattle.program.proofs.name.Name.is.Goals as goal
 
-pub returns : need.returns
+pub returns : goal.returns
 returns c =
-    (λ _. ext-getD 0 (spelled (c .args .self .now)) (c .args .field .now) (omega arith) (λ i h. c .loop-k .inv i (omega arith)), λ _. refl)
+    (λ _. ext_get_or 0 (spelled c.args.self.now) c.args.field.now (omega arith) (λ i h. c.loop-k.invariant i (omega arith)), λ _. refl)

@@ -1,6 +1,5 @@
-use native.Mathlib.Omega.{arith}
-use lib.ListN.{length-take}
-use Rattle·program·proofs.name.Name.len.Needs as need
+use Rattle.std.proofs.Common.{arith, length-take}
+use Rattle.program.proofs.name.Name.len.Goals as goal
 
-pub returns-else-self-lt16 : need.returns-else-self-lt16
+pub returns-else-self-lt16 : goal.returns-else-self-lt16
 returns-else-self-lt16 c = simp length-take (omega arith)

@@ -1,7 +1,6 @@
-use mathlib.Core.Path.{ap}
-use lib.Bits.{and-mask}
-use lib.Dec.{eqb}
-use Rattle·tableau·proofs.claims.ClaimSet.contains.Needs as need
+use Rattle.std.proofs.Common.{eqb, ap}
+use lib.Bits.{and_mask}
+use Rattle.tableau.proofs.claims.ClaimSet.contains.Goals as goal
 
-pub returns : need.returns
-returns c = ap (λ v. eqb v 1) (and-mask _ 1)
+pub returns : goal.returns
+returns c = ap (λ v. eqb v 1) (and_mask _ 1)

@@ -1,9 +1,9 @@
-use native.Mathlib.Omega.{arith}
-use Rattle·tableau·proofs.Words.{words-apart, words-same}
-use Rattle·tableau·proofs.claims.ClaimSet.same.Needs as need
+use Rattle.std.proofs.Common.{arith}
+use Rattle.tableau.proofs.Words.{words_apart, words_same}
+use Rattle.tableau.proofs.claims.ClaimSet.same.Goals as goal
 
-pub returns-then-self-k : need.returns-then-self-k
-returns-then-self-k c = words-apart (c .args .self .now .words) (c .args .other .now .words) (c .loop-k .k) (omega arith) (omega arith) (c .if-self-k .taken)
+pub returns-then-self-k : goal.returns-then-self-k
+returns-then-self-k c = words_apart c.args.self.now.words c.args.other.now.words c.loop-k.k (omega arith) (omega arith) c.if-self-k.true
 
-pub returns : need.returns
-returns c = words-same (c .args .self .now .words) (c .args .other .now .words) (omega arith) (omega arith) (λ j h. c .loop-k .inv j (omega arith))
+pub returns : goal.returns
+returns c = words_same c.args.self.now.words c.args.other.now.words (omega arith) (omega arith) (λ j h. c.loop-k.invariant j (omega arith))

@@ -1,6 +1,6 @@
-use native.Mathlib.Omega.{arith}
-use Rattle·tableau·proofs.Words.{word-with}
-use Rattle·tableau·proofs.claims.ClaimSet.with.Needs as need
+use Rattle.std.proofs.Common.{arith}
+use Rattle.tableau.proofs.Words.{word_with}
+use Rattle.tableau.proofs.claims.ClaimSet.with.Goals as goal
 
-pub returns : need.returns
-returns c x = word-with (c .args .self .words) (c .args .c) x (omega arith) (omega arith)
+pub returns : goal.returns
+returns c x = word_with c.args.self.words c.args.c x (omega arith) (omega arith)

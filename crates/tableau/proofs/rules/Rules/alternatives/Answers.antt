@@ -1,11 +1,11 @@
-use Rattle·tableau·specs.Meant.{meant}
-use Rattle·tableau·proofs.rules.Rules.alternatives.Needs as need
-use Rattle·tableau·proofs.Offering.{offered-offers}
+use Rattle.tableau.specs.Meant.{meant}
+use Rattle.tableau.proofs.rules.Rules.alternatives.Goals as goal
+use Rattle.tableau.proofs.Offering.{offered_offers}
 
-pub returns-in-Some : need.returns-in-Some
+pub returns-in-Some : goal.returns-in-Some
 returns-in-Some c = record {
-  small = c .of-claim .ensures .small;
+  small = c.of-claim.ensures.small;
   offers = λ d s.
-      let k = c .in-Some .ensures tt d s in
-      offered-offers d (c .args .self .phase) (c .args .c) (meant (c .in-Some .claim)) (c .of-claim .result) (k .0) (k .1) (c .of-claim .ensures .offers d s (k .0));
+      let k = c.in-Some.ensures d s in
+      offered_offers d c.args.self.phase c.args.c (meant c.in-Some.claim) c.of-claim.result k.0 k.1 (c.of-claim.ensures.offers d s k.0);
 }

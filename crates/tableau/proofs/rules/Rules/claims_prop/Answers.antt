@@ -1,43 +1,38 @@
-use native.Mathlib.Omega.{arith}
-use mathlib.Core.Path.{_≡_, refl, ap, subst, sym, _∙_}
-use mathlib.Core.Bool.{true, false, cond}
-use Prim.Native.Nat.{ℕ, _<_}
-use lib.ListN.{length}
-use borrow.Author.Count.{below-more}
-use Rattle·std.proofs.shelf.Tests.{both-ways}
-use Rattle·document.specs.Documents.{form-at}
-use Rattle·document.specs.declared.form.Form.the-variants.{Prop}
-use Rattle·document.specs.declared.names.Names.{Names}
-use Rattle·tableau·specs.Claims.{member}
-use Rattle·tableau·specs.Graphs.{Sign, Sign.T, Sign.F, Claim, form}
-use Rattle·tableau·specs.Numbers.{number-of, Claim-of}
-use Rattle·tableau·specs.Successions.{Claims}
-use Rattle·tableau·proofs.rules.Rules.claims_prop.Needs as need
-use Rattle·tableau·proofs.rules.Rules.claims_prop.Needs.{in-Prop·else-other-p, else-other-p·by·then-other-p·else-contains, else-other-p·by·else-other-p, in-rest}
-use Rattle·tableau·proofs.Numbering.{form-told}
-use Rattle·tableau·proofs.Clashing.{same-prop}
+use Rattle.std.proofs.Common.{◌≡◌, ℕ, ◌<◌, true, false, cond, length, sym, refl, ap, ◌∙◌, subst, arith, below_more}
+use Rattle.std.proofs.lemmas.Bool.{both_ways}
+use Rattle.document.specs.Documents.{form_at}
+use Rattle.document.specs.declared.form.Form.TheVariants.{Prop}
+use Rattle.document.specs.declared.names.Names.{Names}
+use Rattle.tableau.specs.Claims.{member}
+use Rattle.tableau.specs.Graphs.{Sign, Sign.T, Sign.F, Claim, form}
+use Rattle.tableau.specs.Numbers.{number_of, ClaimOf}
+use Rattle.tableau.specs.Successions.{Claims}
+use Rattle.tableau.proofs.rules.Rules.claims_prop.Goals as goal
+use Rattle.tableau.proofs.rules.Rules.claims_prop.Goals.{in-Prop+else-other-p, else-other-p-via-then-other-p+else-contains, else-other-p-via-else-other-p, in-default}
+use Rattle.tableau.proofs.Numbering.{form_told}
+use Rattle.tableau.proofs.Clashing.{same_prop}
 
-pub loop-e-again : need.loop-e-again
-loop-e-again c = λ d s.
-    let held = c .args .self .declared .now in
-    let N = member (c .args .set .words) in
-    let e = c .loop-e .e in
-    let end : c .count-e-end .result ≡ held .forms .count = c .count-e-end .ensures .is ∙ ap (λ (n : Names). n .count) (c .forms .ensures .is) in
-    let t = form-told held d s e (c .count-e-end .result) (c .form .result) end (c .loop-e-test .taken) (c .form .ensures .is) in
-    below-more (λ h. Claims d N (form (cond (c .args .sign) T F) h) → form-at d h ≡ Prop (c .args .p) → ⊥) e (c .loop-e .inv d s)
-    (λ k q. elim (c .match-form .came) [
-      | in-Prop·else-other-p w ↦ elim (w .else-other-p .came) [
-        | else-other-p·by·then-other-p·else-contains v ↦
-            let n = v .number .ensures d s (subst (Claim-of d) (sym (v .signed .ensures)) (k .0)) ∙ ap (number-of d) (v .signed .ensures) in
-            both-ways (v .contains .result) (v .if-contains .left) (v .contains .ensures ∙ ap N n ∙ k .1)
-        | else-other-p·by·else-other-p v ↦ v .if-other-p .left (same-prop (form-at d e) (w .in-Prop .other) (c .args .p) (sym (t .1) ∙ w .in-Prop .is) q)
+pub loop-e-preserved : goal.loop-e-preserved
+loop-e-preserved c = λ d s.
+    let held = c.args.self.declared.now in
+    let N = member c.args.set.words in
+    let e = c.loop-e.e in
+    let end : c.count-e-end.result ≡ held.forms.count = c.count-e-end.ensures.is ∙ ap (λ (n : Names). n.count) c.forms.ensures.is in
+    let t = form_told held d s e c.count-e-end.result c.form.result end c.loop-e-test.true c.form.ensures.is in
+    below_more (λ h. Claims d N (form (cond c.args.sign T F) h) → form_at d h ≡ Prop c.args.p → ⊥) e (c.loop-e.invariant d s)
+    (λ k q. elim c.match-form.branch [
+      | in-Prop+else-other-p w ↦ elim w.else-other-p.branch [
+        | else-other-p-via-then-other-p+else-contains v ↦
+            let n = v.number.ensures d s (subst (ClaimOf d) (sym v.signed.ensures) k.0) ∙ ap (number_of d) v.signed.ensures in
+            both_ways v.contains.result v.if-contains.false (v.contains.ensures ∙ ap N n ∙ k.1)
+        | else-other-p-via-else-other-p v ↦ v.if-other-p.false (same_prop (form_at d e) w.in-Prop.other c.args.p (sym t.1 ∙ w.in-Prop.is) q)
       ]
-      | in-rest w ↦ w .in-rest .not-Prop (c .args .p) (t .1 ∙ q)
+      | in-default w ↦ w.in-default.not-Prop c.args.p (t.1 ∙ q)
     ])
 
-pub returns : need.returns
+pub returns : goal.returns
 returns c = λ d s.
-    let held = c .args .self .declared .now in
-    let end : c .count-e-end .result ≡ held .forms .count = c .count-e-end .ensures .is ∙ ap (λ (n : Names). n .count) (c .forms .ensures .is) in
-    let n = s .count in
-    (λ h. absurd (both-ways false refl h), λ k. absurd (let l = k .1 .0 .0 in c .loop-e .inv d s (k .0) (omega arith) (k .1) (k .2)))
+    let held = c.args.self.declared.now in
+    let end : c.count-e-end.result ≡ held.forms.count = c.count-e-end.ensures.is ∙ ap (λ (n : Names). n.count) c.forms.ensures.is in
+    let n = s.count in
+    (λ h. absurd (both_ways false refl h), λ k. absurd (let l = k.1.0.0 in c.loop-e.invariant d s k.0 (omega arith) k.1 k.2))

@@ -1,34 +1,32 @@
-use native.Mathlib.Omega.{arith}
-use mathlib.Core.Path.{ap, sym, subst, _∙_}
-use Rattle·std.specs.Orderings.{Decides}
-use Rattle·tableau·specs.Calculus.{Clashes-with}
-use Rattle·tableau·specs.Claims.{member}
-use Rattle·tableau·specs.Meant.{meant}
-use Rattle·tableau·specs.Numbers.{Claim-of}
-use Rattle·tableau·specs.declared.claim.Claim.{Claim}
-use Rattle·tableau·proofs.rules.Rules.clashes_claim.Needs as need
-use Rattle·tableau·proofs.Clashing.{until-clash, step-clash, not-until-clash, not-step-clash}
+use Rattle.std.proofs.Common.{Decides, sym, ap, ◌∙◌, subst, arith}
+use Rattle.tableau.specs.Calculus.{ClashesWith}
+use Rattle.tableau.specs.Claims.{member}
+use Rattle.tableau.specs.Meant.{meant}
+use Rattle.tableau.specs.Numbers.{ClaimOf}
+use Rattle.tableau.specs.declared.claim.Claim.{Claim}
+use Rattle.tableau.proofs.rules.Rules.clashes_claim.Goals as goal
+use Rattle.tableau.proofs.Clashing.{until_clash, step_clash, not_until_clash, not_step_clash}
 
-pub returns-in-TrueUntil : need.returns-in-TrueUntil
+pub returns-in-TrueUntil : goal.returns-in-TrueUntil
 returns-in-TrueUntil c = λ d s.
-    let N = member (c .args .set .words) in
-    subst (λ (k : Claim). Claim-of d (meant k) → Decides (c .contains .result) (Clashes-with d N (meant k))) (sym (c .in-TrueUntil .is))
-    (λ k. until-clash d N (c .in-TrueUntil .e) (c .in-TrueUntil .q) (c .in-TrueUntil .label) (c .contains .result) k (c .contains .ensures ∙ ap N (c .number .ensures d s (k .0))))
+    let N = member c.args.set.words in
+    subst (λ (k : Claim). ClaimOf d (meant k) → Decides c.contains.result (ClashesWith d N (meant k))) (sym c.in-TrueUntil.is)
+    (λ k. until_clash d N c.in-TrueUntil.e c.in-TrueUntil.q c.in-TrueUntil.label c.contains.result k (c.contains.ensures ∙ ap N (c.number.ensures d s k.0)))
 
-pub returns-in-FalseUntil : need.returns-in-FalseUntil
+pub returns-in-FalseUntil : goal.returns-in-FalseUntil
 returns-in-FalseUntil c = λ d s.
-    let N = member (c .args .set .words) in
-    subst (λ (k : Claim). Claim-of d (meant k) → Decides (c .has-either .result) (Clashes-with d N (meant k))) (sym (c .in-FalseUntil .is))
-    (λ k. not-until-clash d N (c .in-FalseUntil .e) (c .in-FalseUntil .q) (c .has-either .result) k (c .has-either .ensures d s (k, omega arith) (k, omega arith)))
+    let N = member c.args.set.words in
+    subst (λ (k : Claim). ClaimOf d (meant k) → Decides c.has-either.result (ClashesWith d N (meant k))) (sym c.in-FalseUntil.is)
+    (λ k. not_until_clash d N c.in-FalseUntil.e c.in-FalseUntil.q c.has-either.result k (c.has-either.ensures d s (k, omega arith) (k, omega arith)))
 
-pub returns-in-TrueStep : need.returns-in-TrueStep
+pub returns-in-TrueStep : goal.returns-in-TrueStep
 returns-in-TrueStep c = λ d s.
-    let N = member (c .args .set .words) in
-    subst (λ (k : Claim). Claim-of d (meant k) → Decides (c .contains-in-TrueStep .result) (Clashes-with d N (meant k))) (sym (c .in-TrueStep .is))
-    (λ k. step-clash d N (c .in-TrueStep .e) (c .in-TrueStep .q) (c .in-TrueStep .label) (c .contains-in-TrueStep .result) k (c .contains-in-TrueStep .ensures ∙ ap N (c .number-in-TrueStep .ensures d s (k .0))))
+    let N = member c.args.set.words in
+    subst (λ (k : Claim). ClaimOf d (meant k) → Decides c.contains-in-TrueStep.result (ClashesWith d N (meant k))) (sym c.in-TrueStep.is)
+    (λ k. step_clash d N c.in-TrueStep.e c.in-TrueStep.q c.in-TrueStep.label c.contains-in-TrueStep.result k (c.contains-in-TrueStep.ensures ∙ ap N (c.number-in-TrueStep.ensures d s k.0)))
 
-pub returns-in-FalseStep : need.returns-in-FalseStep
+pub returns-in-FalseStep : goal.returns-in-FalseStep
 returns-in-FalseStep c = λ d s.
-    let N = member (c .args .set .words) in
-    subst (λ (k : Claim). Claim-of d (meant k) → Decides (c .has-either-in-FalseStep .result) (Clashes-with d N (meant k))) (sym (c .in-FalseStep .is))
-    (λ k. not-step-clash d N (c .in-FalseStep .e) (c .in-FalseStep .q) (c .has-either-in-FalseStep .result) k (c .has-either-in-FalseStep .ensures d s (k, omega arith) (k, omega arith)))
+    let N = member c.args.set.words in
+    subst (λ (k : Claim). ClaimOf d (meant k) → Decides c.has-either-in-FalseStep.result (ClashesWith d N (meant k))) (sym c.in-FalseStep.is)
+    (λ k. not_step_clash d N c.in-FalseStep.e c.in-FalseStep.q c.has-either-in-FalseStep.result k (c.has-either-in-FalseStep.ensures d s (k, omega arith) (k, omega arith)))

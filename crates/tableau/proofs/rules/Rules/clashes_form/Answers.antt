@@ -1,45 +1,43 @@
-use mathlib.Core.Path.{_≡_, refl, ap, subst, sym, _∙_}
-use mathlib.Core.Bool.{Bool, true, false, not, cond}
-use Prim.Native.Nat.{ℕ}
-use Rattle·std.proofs.shelf.Tests.{both-ways}
-use Rattle·document.specs.declared.form.Form.the-variants.{True, Prop}
-use Rattle·tableau·specs.Claims.{member}
-use Rattle·tableau·specs.Graphs.{Sign, Sign.T, Sign.F, Claim, form}
-use Rattle·tableau·specs.Numbers.{number-of, Claim-of}
-use Rattle·tableau·proofs.rules.Rules.clashes_form.Needs as need
-use Rattle·tableau·proofs.Numbering.{form-there}
-use Rattle·tableau·proofs.Clashing.{opposite-clash, truth-clash, prop-clash, other-clash}
+use Rattle.std.proofs.Common.{◌≡◌, ℕ, Bool, true, false, cond, not, sym, refl, ap, ◌∙◌, subst}
+use Rattle.std.proofs.lemmas.Bool.{both_ways}
+use Rattle.document.specs.declared.form.Form.TheVariants.{True, Prop}
+use Rattle.tableau.specs.Claims.{member}
+use Rattle.tableau.specs.Graphs.{Sign, Sign.T, Sign.F, Claim, form}
+use Rattle.tableau.specs.Numbers.{number_of, ClaimOf}
+use Rattle.tableau.proofs.rules.Rules.clashes_form.Goals as goal
+use Rattle.tableau.proofs.Numbering.{form_there}
+use Rattle.tableau.proofs.Clashing.{opposite_clash, truth_clash, prop_clash, other_clash}
 
-pub returns-then-contains : need.returns-then-contains
+pub returns-then-contains : goal.returns-then-contains
 returns-then-contains c = λ d s own.
-    let N = member (c .args .set .words) in
-    let e = c .args .e in
-    let m = sym (c .signed .ensures) in
-    let n = c .number .ensures d s (subst (Claim-of d) m own) ∙ ap (number-of d) (c .signed .ensures) in
-    let has : N (number-of d (form (cond (not (c .args .sign)) T F) e)) ≡ true = ap N (sym n) ∙ sym (c .contains .ensures) ∙ c .if-contains .taken in
-    (λ _. opposite-clash d N e (c .args .sign) own has, λ _. refl)
+    let N = member c.args.set.words in
+    let e = c.args.e in
+    let m = sym c.signed.ensures in
+    let n = c.number.ensures d s (subst (ClaimOf d) m own) ∙ ap (number_of d) c.signed.ensures in
+    let has : N (number_of d (form (cond (not c.args.sign) T F) e)) ≡ true = ap N (sym n) ∙ sym c.contains.ensures ∙ c.if-contains.true in
+    (λ _. opposite_clash d N e c.args.sign own has, λ _. refl)
 
-pub returns-in-True : need.returns-in-True
+pub returns-in-True : goal.returns-in-True
 returns-in-True c = λ d s own.
-    let N = member (c .args .set .words) in
-    let e = c .args .e in
-    let n = c .number .ensures d s (subst (Claim-of d) (sym (c .signed .ensures)) own) ∙ ap (number-of d) (c .signed .ensures) in
-    let none : N (number-of d (form (cond (not (c .args .sign)) T F) e)) ≡ false = ap N (sym n) ∙ sym (c .contains .ensures) ∙ c .if-contains .left in
-    truth-clash d N e (c .args .sign) own (sym (form-there (c .args .self .declared .now) d s e True (own .0) (c .in-True .ensures tt .is))) none
+    let N = member c.args.set.words in
+    let e = c.args.e in
+    let n = c.number.ensures d s (subst (ClaimOf d) (sym c.signed.ensures) own) ∙ ap (number_of d) c.signed.ensures in
+    let none : N (number_of d (form (cond (not c.args.sign) T F) e)) ≡ false = ap N (sym n) ∙ sym c.contains.ensures ∙ c.if-contains.false in
+    truth_clash d N e c.args.sign own (sym (form_there c.args.self.declared.now d s e True own.0 c.in-True.ensures.is)) none
 
-pub returns-in-Prop : need.returns-in-Prop
+pub returns-in-Prop : goal.returns-in-Prop
 returns-in-Prop c = λ d s own.
-    let N = member (c .args .set .words) in
-    let e = c .args .e in
-    let n = c .number .ensures d s (subst (Claim-of d) (sym (c .signed .ensures)) own) ∙ ap (number-of d) (c .signed .ensures) in
-    let none : N (number-of d (form (cond (not (c .args .sign)) T F) e)) ≡ false = ap N (sym n) ∙ sym (c .contains .ensures) ∙ c .if-contains .left in
-    prop-clash d N e (c .in-Prop .p) (c .args .sign) (c .claims-prop .result) own (sym (form-there (c .args .self .declared .now) d s e (Prop (c .in-Prop .p)) (own .0) (c .in-Prop .ensures tt .is))) none (c .claims-prop .ensures d s)
+    let N = member c.args.set.words in
+    let e = c.args.e in
+    let n = c.number.ensures d s (subst (ClaimOf d) (sym c.signed.ensures) own) ∙ ap (number_of d) c.signed.ensures in
+    let none : N (number_of d (form (cond (not c.args.sign) T F) e)) ≡ false = ap N (sym n) ∙ sym c.contains.ensures ∙ c.if-contains.false in
+    prop_clash d N e c.in-Prop.p c.args.sign c.claims-prop.result own (sym (form_there c.args.self.declared.now d s e (Prop c.in-Prop.p) own.0 c.in-Prop.ensures.is)) none (c.claims-prop.ensures d s)
 
-pub returns-in-rest : need.returns-in-rest
-returns-in-rest c = λ d s own.
-    let N = member (c .args .set .words) in
-    let e = c .args .e in
-    let n = c .number .ensures d s (subst (Claim-of d) (sym (c .signed .ensures)) own) ∙ ap (number-of d) (c .signed .ensures) in
-    let none : N (number-of d (form (cond (not (c .args .sign)) T F) e)) ≡ false = ap N (sym n) ∙ sym (c .contains .ensures) ∙ c .if-contains .left in
-    let is = form-there (c .args .self .declared .now) d s e (c .form .result) (own .0) (c .form .ensures .is) in
-    (λ h. absurd (both-ways false refl h), λ k. absurd (other-clash d N e (c .args .sign) (λ t. c .in-rest .not-True (is ∙ t)) (λ p t. c .in-rest .not-Prop p (is ∙ t)) none k))
+pub returns-in-default : goal.returns-in-default
+returns-in-default c = λ d s own.
+    let N = member c.args.set.words in
+    let e = c.args.e in
+    let n = c.number.ensures d s (subst (ClaimOf d) (sym c.signed.ensures) own) ∙ ap (number_of d) c.signed.ensures in
+    let none : N (number_of d (form (cond (not c.args.sign) T F) e)) ≡ false = ap N (sym n) ∙ sym c.contains.ensures ∙ c.if-contains.false in
+    let is = form_there c.args.self.declared.now d s e c.form.result own.0 c.form.ensures.is in
+    (λ h. absurd (both_ways false refl h), λ k. absurd (other_clash d N e c.args.sign (λ t. c.in-default.not-True (is ∙ t)) (λ p t. c.in-default.not-Prop p (is ∙ t)) none k))

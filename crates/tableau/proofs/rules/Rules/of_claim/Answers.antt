@@ -1,36 +1,36 @@
-use mathlib.Core.Path.{sym, subst}
-use Rattle·tableau·specs.Calculus.{Offered}
-use Rattle·tableau·specs.Graphs.{Gives}
-use Rattle·tableau·specs.Meant.{meant}
-use Rattle·tableau·specs.Numbers.{Claim-of}
-use Rattle·tableau·specs.declared.claim.Claim.{Claim}
-use Rattle·tableau·proofs.rules.Rules.of_claim.Needs as need
+use Rattle.std.proofs.Common.{sym, subst}
+use Rattle.tableau.specs.Calculus.{Offered}
+use Rattle.tableau.specs.Graphs.{Gives}
+use Rattle.tableau.specs.Meant.{meant}
+use Rattle.tableau.specs.Numbers.{ClaimOf}
+use Rattle.tableau.specs.declared.claim.Claim.{Claim}
+use Rattle.tableau.proofs.rules.Rules.of_claim.Goals as goal
 
-pub returns-in-True : need.returns-in-True
+pub returns-in-True : goal.returns-in-True
 returns-in-True c = record {
-  small = c .of-true .ensures .small;
+  small = c.of-true.ensures.small;
   offers = λ d s.
-      subst (λ (k : Claim). Claim-of d (meant k) → Offered d (λ b. Gives d (c .args .self .phase) b (meant k)) (c .of-true .result)) (sym (c .in-True .is)) (λ k. c .of-true .ensures .offers d s (k .0));
+      subst (λ (k : Claim). ClaimOf d (meant k) → Offered d (λ b. Gives d c.args.self.phase b (meant k)) c.of-true.result) (sym c.in-True.is) (λ k. c.of-true.ensures.offers d s k.0);
 }
 
-pub returns-in-False : need.returns-in-False
+pub returns-in-False : goal.returns-in-False
 returns-in-False c = record {
-  small = c .of-false .ensures .small;
+  small = c.of-false.ensures.small;
   offers = λ d s.
-      subst (λ (k : Claim). Claim-of d (meant k) → Offered d (λ b. Gives d (c .args .self .phase) b (meant k)) (c .of-false .result)) (sym (c .in-False .is)) (λ k. c .of-false .ensures .offers d s (k .0));
+      subst (λ (k : Claim). ClaimOf d (meant k) → Offered d (λ b. Gives d c.args.self.phase b (meant k)) c.of-false.result) (sym c.in-False.is) (λ k. c.of-false.ensures.offers d s k.0);
 }
 
-pub returns-in-TrueUntil : need.returns-in-TrueUntil
+pub returns-in-TrueUntil : goal.returns-in-TrueUntil
 returns-in-TrueUntil c = record {
-  small = c .of-true-until .ensures .small;
+  small = c.of-true-until.ensures.small;
   offers = λ d s.
-      subst (λ (k : Claim). Claim-of d (meant k) → Offered d (λ b. Gives d (c .args .self .phase) b (meant k)) (c .of-true-until .result)) (sym (c .in-TrueUntil .is))
-      (λ k. c .of-true-until .ensures .offers d s (k .0) (k .1));
+      subst (λ (k : Claim). ClaimOf d (meant k) → Offered d (λ b. Gives d c.args.self.phase b (meant k)) c.of-true-until.result) (sym c.in-TrueUntil.is)
+      (λ k. c.of-true-until.ensures.offers d s k.0 k.1);
 }
 
-pub returns-in-FalseUntil : need.returns-in-FalseUntil
+pub returns-in-FalseUntil : goal.returns-in-FalseUntil
 returns-in-FalseUntil c = record {
-  small = c .of-false-until .ensures .small;
+  small = c.of-false-until.ensures.small;
   offers = λ d s.
-      subst (λ (k : Claim). Claim-of d (meant k) → Offered d (λ b. Gives d (c .args .self .phase) b (meant k)) (c .of-false-until .result)) (sym (c .in-FalseUntil .is)) (λ k. c .of-false-until .ensures .offers d s k);
+      subst (λ (k : Claim). ClaimOf d (meant k) → Offered d (λ b. Gives d c.args.self.phase b (meant k)) c.of-false-until.result) (sym c.in-FalseUntil.is) (λ k. c.of-false-until.ensures.offers d s k);
 }

@@ -1,0 +1,6 @@
+use Rattle.document.specs.Documents.{Document}
+use Rattle.lasso.specs.Judged.{Judges, Judged}
+use Rattle.lasso.proofs.judge.judge.Given as goal
+
+abbrev pub invariant-loop-e : goal.invariant-loop-e
+invariant-loop-e l = (d : Document) → Judges l.declared l.steps d → Judged d l.steps l.stem l.e 0 l.truths

@@ -1,7 +1,0 @@
-use mathlib.Core.Path.{_≡_}
-use Prim.Native.Nat.{ℕ, _<_}
-use lib.ListN.{getD}
-use Rattle·lasso·proofs.until.clear.Given as given
-
-abbrev pub Inv-loop-w : given.InvT-loop-w
-Inv-loop-w l = (k : ℕ) → k < l .w-index → getD (l .words) k 0 ≡ 0

@@ -1,0 +1,15 @@
+use Rattle.std.proofs.Common.{◌≡◌, ◌<◌, true, length}
+use Rattle.document.specs.Documents.{Document, form_at}
+use Rattle.tableau.specs.Calculus.{calculus, Fine}
+use Rattle.tableau.specs.Claims.{has}
+use Rattle.tableau.specs.Handing.{To, Added}
+use Rattle.tableau.specs.Numbers.{Shows, StateOf}
+use Rattle.tableau.specs.Walk.{on, Stands}
+use Rattle.tableau.proofs.Handed.{Below}
+use Rattle.tableau.proofs.open.add_targets.Given as goal
+
+abbrev pub invariant-loop-target : goal.invariant-loop-target
+invariant-loop-target l =
+    Stands l.all.words (on l.trail) l.trail.len
+    × ((d : Document) → Shows l.rules.declared.now d → StateOf d l.e l.q → l.node.action < d.acts → Fine (calculus d l.rules.phase) (has (on l.initial.trail))
+    → Added (calculus d l.rules.phase) (Below (To d l.node l.e l.q) l.target) (on l.initial.trail) (on l.trail))
