@@ -1,5 +1,7 @@
 // How the cost of the calls grows with the work. Without an argument a small run says what comes out; with the argument
 // `times` the full one says how long each piece of work takes, and how many times as long as the one before.
+#![tactic(auto)]
+
 mod auditing;
 mod growing;
 mod judging;

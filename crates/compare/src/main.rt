@@ -1,4 +1,6 @@
 // Reads cases.txt of the current folder, runs every case on the engine, and writes a line a case to standard output.
+#![tactic(auto)]
+
 mod answer;
 mod cases;
 mod cursor;

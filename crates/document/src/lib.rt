@@ -1,4 +1,6 @@
 // Documents: their lines, what they declare, and the formulas of their form lines.
+#![tactic(auto)]
+
 pub mod declared;
 pub mod document;
 pub mod fault;

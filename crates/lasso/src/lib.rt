@@ -1,4 +1,6 @@
 // Lassos: sessions that run into a loop. Judging a document's forms on one, and its text.
+#![tactic(auto)]
+
 pub mod decimal;
 pub mod judge;
 pub mod print;

@@ -1,4 +1,6 @@
 // Regular programs of actions: their text, the row of masks that it spells, and the automaton made of a row.
+#![tactic(auto)]
+
 pub mod automaton;
 pub mod check;
 pub mod fault;

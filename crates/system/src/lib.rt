@@ -1,3 +1,5 @@
+#![tactic(auto)]
+
 pub mod joint;
 mod led;
 pub mod listed;

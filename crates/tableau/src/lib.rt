@@ -1,4 +1,6 @@
 // The graph of a goal: claims, expansions, nodes and edges, grown unit by unit.
+#![tactic(auto)]
+
 pub mod claim;
 pub mod claims;
 pub mod grow;

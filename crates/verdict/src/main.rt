@@ -1,4 +1,6 @@
 // Reads a document from standard input, grows its goal's graph to the end, and writes the verdict with its lasso.
+#![tactic(auto)]
+
 ghost use Rattle.std.specs.Prelude.{◌≡◌};
 ghost use Rattle.document.specs.Faults.{load_fault_code, load_fault_line};
 ghost use Rattle.study.specs.Refusals.{refusal_code};
