@@ -1,7 +1,7 @@
 -- Where the checker stops is the column of the fault.
 use Rattle.std.proofs.Common.{◌≡◌, ℕ, ◌+◌, ◌<◌, ◌≤◌, true, false, not, ◌&&◌, eqb, List, [], ◌∷◌, ◌++◌, length, get_or, take, drop, Some, None, sym, refl, ap, ◌∙◌, subst, arith}
 use Rattle.std.proofs.lemmas.List.{append_assoc, take-append-drop, take-take, take_all, take_more}
-use Rattle.std.proofs.lemmas.Bool.{eqb-true, and_parts, not_true}
+use Rattle.std.proofs.lemmas.Bool.{eqb-true, and_parts, not-true}
 use Rattle.program.specs.Steps.{stand, stepped}
 use Rattle.program.specs.Text.{WellFormed, Begun, FaultAt}
 use Rattle.program.specs.declared.check.Prefix.{Prefix}
@@ -27,7 +27,7 @@ pub ends_whole : (text : List ℕ) (at : ℕ) (s : Prefix) → length text ≤ a
 ends_whole text at s h g w =
     let k : Known text s.due s.depth s.name = known text [] start s at_start (subst (λ v. Goes start v s) (take_all at text h) g) in
     let p = and_parts (not s.due) (eqb s.depth 0) w in
-    let a = not_true s.due p.0 in
+    let a = not-true s.due p.0 in
     let b = eqb-true s.depth 0 p.1 in
     whole text s.name (subst (λ v. Known text false v s.name) b (subst (λ v. Known text v s.depth s.name) a k))
 

@@ -3,7 +3,7 @@ use Rattle.program.specs.Steps.{stepped}
 use Rattle.program.specs.Text.{FaultAt}
 use Rattle.program.proofs.Columns.{goes_more, ends_whole, ends_early, ends_refused}
 use Rattle.program.proofs.check.check.Goals as goal
-use Rattle.program.proofs.check.check.Goals.{then-at-text+else-is-whole as at-the-end, else-at-text+in-None as at-a-byte}
+use Rattle.program.proofs.check.check.Goals.{then-at-text+else-is_whole as at-the-end, else-at-text+in-None as at-a-byte}
 
 pub read-preserved : goal.read-preserved
 read-preserved c = (
@@ -22,7 +22,7 @@ returns c =
     elim c.if-at-text.branch [
       | at-the-end w ↦
           subst (λ v. FaultAt text (v + 1)) (sym w.column-is)
-          (ends_early text c.read.at c.read.prefix c.read.invariant.0 w.if-at-text.taken c.read.invariant.1 (sym w.is-whole.ensures ∙ w.if-is-whole.left))
+          (ends_early text c.read.at c.read.prefix c.read.invariant.0 w.if-at-text.true c.read.invariant.1 (sym w.is_whole.ensures ∙ w.if-is-whole.left))
       | at-a-byte w ↦
           subst (λ v. FaultAt text (v + 1)) (sym w.column-is)
           (ends_refused text c.read.at c.read.prefix w.if-at-text.left c.read.invariant.1

@@ -29,10 +29,10 @@ atom-returns-then-text-at-eq40 t c =
     let acts = map spelled c.args.acts.now in
     let old = c.args.draft.now in
     record {
-      bound = closed_bound text c.in-ok-inside.inside c.closed.result at c.sum.new.draft.names (omega (arith, c.in-ok-inside.ensures.bound))
-          c.in-ok-inside.ensures.bound.2 c.closed.ensures;
-      reads = atom_closed text at acts old c.sum.new.draft c.in-ok-inside.inside c.closed.result
-          (c.if-at-text.true, c.if-text-at-eq40.true) c.in-ok-inside.ensures.reads c.closed.ensures;
+      bound = closed_bound text c.in_ok-inside.inside c.closed.result at c.sum.new.draft.names (omega (arith, c.in_ok-inside.ensures.bound))
+          c.in_ok-inside.ensures.bound.2 c.closed.ensures;
+      reads = atom_closed text at acts old c.sum.new.draft c.in_ok-inside.inside c.closed.result
+          (c.if-at-text.true, c.if-text-at-eq40.true) c.in_ok-inside.ensures.reads c.closed.ensures;
     }
 
 pub atom-returns : goal.atom-returns
@@ -44,7 +44,7 @@ atom-returns t c =
     record {
       bound = c.action.ensures.bound;
       reads = atom_word text at acts old c.action.new.draft c.action.result c.action.ensures.reads
-          (λ h. elim c.else-at-text.branch [ open-other w ↦ w.if-text-at-eq40.left h.1 | open-end w ↦ omega (arith, h.0, w.if-at-text.left) ]);
+          (λ h. elim c.else-at-text.branch [ open-other w ↦ w.if-text-at-eq40.false h.1 | open-end w ↦ omega (arith, h.0, w.if-at-text.false) ]);
     }
 
 pub factor-returns-in-err-base : goal.factor-returns-in-err-base
@@ -66,11 +66,11 @@ factor-returns-then-end-base t c =
     let at = c.args.at in
     let acts = map spelled c.args.acts.now in
     let old = c.args.draft.now in
-    let s = c.stars-end-end.ensures in
+    let s = c.stars_end-end.ensures in
     record {
       bound = search rules;
-      reads = factor_alone text at acts old c.atom.new.draft c.in-ok-base.base c.stars-end-end.result
-          c.in-ok-base.ensures.reads s.within.0 s.within.1 s.all s.stops c.if-end-base.true;
+      reads = factor_alone text at acts old c.atom.new.draft c.in_ok-base.base c.stars_end-end.result
+          c.in_ok-base.ensures.reads s.within.0 s.within.1 s.all s.stops c.if-end-base.true;
     }
 
 pub factor-returns : goal.factor-returns
@@ -79,11 +79,11 @@ factor-returns t c =
     let at = c.args.at in
     let acts = map spelled c.args.acts.now in
     let old = c.args.draft.now in
-    let s = c.stars-end-end.ensures in
+    let s = c.stars_end-end.ensures in
     record {
-      bound = omega (arith, c.in-ok-base.ensures.bound, c.connect.ensures.count, c.starred.ensures.end, s.within);
-      reads = factor_stars text at acts old c.atom.new.draft c.in-ok-base.base c.stars-end-end.result
-          c.in-ok-base.ensures.reads s.within.0 s.within.1 s.all s.stops c.connect.new.self c.starred.result
+      bound = omega (arith, c.in_ok-base.ensures.bound, c.connect.ensures.count, c.starred.ensures.end, s.within);
+      reads = factor_stars text at acts old c.atom.new.draft c.in_ok-base.base c.stars_end-end.result
+          c.in_ok-base.ensures.reads s.within.0 s.within.1 s.all s.stops c.connect.new.self c.starred.result
           c.if-end-base.false c.connect.ensures c.starred.ensures.end c.starred.ensures.is;
     }
 
@@ -122,10 +122,10 @@ sequence-returns-then-text-end-eq59 t c =
     let acts = map spelled c.args.acts.now in
     let old = c.args.draft.now in
     record {
-      bound = omega (arith, c.in-ok-left.ensures.bound, c.in-ok-right.ensures.bound, c.connect.ensures.count, c.then.ensures.end);
-      reads = sequence_both text at acts old c.factor.new.draft c.sequence.new.draft c.connect.new.self c.in-ok-left.left
-          c.in-ok-right.right c.then.result c.in-ok-left.ensures.reads (c.if-end-text.true, c.if-text-end-eq59.true)
-          c.in-ok-right.ensures.reads c.connect.ensures c.then.ensures.end c.then.ensures.is;
+      bound = omega (arith, c.in_ok-left.ensures.bound, c.in_ok-right.ensures.bound, c.connect.ensures.count, c.then.ensures.end);
+      reads = sequence_both text at acts old c.factor.new.draft c.sequence.new.draft c.connect.new.self c.in_ok-left.left
+          c.in_ok-right.right c.then.result c.in_ok-left.ensures.reads (c.if-end-text.true, c.if-text-end-eq59.true)
+          c.in_ok-right.ensures.reads c.connect.ensures c.then.ensures.end c.then.ensures.is;
     }
 
 pub sequence-returns : goal.sequence-returns
@@ -136,8 +136,8 @@ sequence-returns t c =
     let old = c.args.draft.now in
     record {
       bound = search rules;
-      reads = sequence_alone text at acts old c.factor.new.draft c.in-ok-left.left c.in-ok-left.ensures.reads
-          (λ h. elim c.else-end-text.branch [ Semi-other w ↦ w.if-text-end-eq59.left h.1 | semi-end w ↦ omega (arith, h.0, w.if-end-text.left) ]);
+      reads = sequence_alone text at acts old c.factor.new.draft c.in_ok-left.left c.in_ok-left.ensures.reads
+          (λ h. elim c.else-end-text.branch [ Semi-other w ↦ w.if-text-end-eq59.false h.1 | semi-end w ↦ omega (arith, h.0, w.if-end-text.false) ]);
     }
 
 pub sum-returns-in-err-left : goal.sum-returns-in-err-left
@@ -174,10 +174,10 @@ sum-returns-then-text-end-eq43 t c =
     let acts = map spelled c.args.acts.now in
     let old = c.args.draft.now in
     record {
-      bound = omega (arith, c.in-ok-left.ensures.bound, c.in-ok-right.ensures.bound, c.either.ensures.end);
-      reads = sum_both text at acts old c.sequence.new.draft c.sum.new.draft c.in-ok-left.left c.in-ok-right.right
-          c.either.result c.in-ok-left.ensures.reads (c.if-end-text.true, c.if-text-end-eq43.true)
-          c.in-ok-right.ensures.reads c.either.ensures.end c.either.ensures.is;
+      bound = omega (arith, c.in_ok-left.ensures.bound, c.in_ok-right.ensures.bound, c.either.ensures.end);
+      reads = sum_both text at acts old c.sequence.new.draft c.sum.new.draft c.in_ok-left.left c.in_ok-right.right
+          c.either.result c.in_ok-left.ensures.reads (c.if-end-text.true, c.if-text-end-eq43.true)
+          c.in_ok-right.ensures.reads c.either.ensures.end c.either.ensures.is;
     }
 
 pub sum-returns : goal.sum-returns
@@ -188,6 +188,6 @@ sum-returns t c =
     let old = c.args.draft.now in
     record {
       bound = search rules;
-      reads = sum_alone text at acts old c.sequence.new.draft c.in-ok-left.left c.in-ok-left.ensures.reads
-          (λ h. elim c.else-end-text.branch [ plus-other w ↦ w.if-text-end-eq43.left h.1 | plus-end w ↦ omega (arith, h.0, w.if-end-text.left) ]);
+      reads = sum_alone text at acts old c.sequence.new.draft c.in_ok-left.left c.in_ok-left.ensures.reads
+          (λ h. elim c.else-end-text.branch [ plus-other w ↦ w.if-text-end-eq43.false h.1 | plus-end w ↦ omega (arith, h.0, w.if-end-text.false) ]);
     }

@@ -8,37 +8,37 @@ use Rattle.program.proofs.read.action.Goals as goal
 
 pub returns-then-end-at : goal.returns-then-end-at
 returns-then-end-at c =
-    let s = c.name-end-end.ensures in
+    let s = c.name_end-end.ensures in
     record {
       bound = tt;
       reads = λ bs rest t n e un.
-          let i = word_end c.args.text.now bs rest c.args.at c.name-end-end.result s.within.0 s.within.1 s.all s.stops n.0 e un in
+          let i = word_end c.args.text.now bs rest c.args.at c.name_end-end.result s.within.0 s.within.1 s.all s.stops n.0 e un in
           absurd (omega (arith, n.0.some));
     }
 
 pub returns-in-None : goal.returns-in-None
 returns-in-None c =
-    let s = c.name-end-end.ensures in
+    let s = c.name_end-end.ensures in
     record {
       bound = tt;
       reads = λ bs rest t n e un.
-          let i = word_end c.args.text.now bs rest c.args.at c.name-end-end.result s.within.0 s.within.1 s.all s.stops n.0 e un in
-          let w = word_is c.args.text.now bs rest c.args.at c.name-end-end.result i e in
+          let i = word_end c.args.text.now bs rest c.args.at c.name_end-end.result s.within.0 s.within.1 s.all s.stops n.0 e un in
+          let w = word_is c.args.text.now bs rest c.args.at c.name_end-end.result i e in
           let none : Absent (map spelled c.args.acts.now) (length (map spelled c.args.acts.now)) bs = subst (Absent (map spelled c.args.acts.now) (length (map spelled c.args.acts.now))) w c.in-None.ensures in
           rw n.1 (refl, λ p m. none m.0 m.1.0 m.1.1);
     }
 
 pub returns-in-Some : goal.returns-in-Some
 returns-in-Some c =
-    let s = c.name-end-end.ensures in
+    let s = c.name_end-end.ensures in
     let a = c.add-bit.ensures in
     let bits = a.bit in
     let number = c.in-Some.number in
     record {
       bound = omega (arith, a.count);
       reads = λ bs rest t n e un.
-          let i = word_end c.args.text.now bs rest c.args.at c.name-end-end.result s.within.0 s.within.1 s.all s.stops n.0 e un in
-          let w = word_is c.args.text.now bs rest c.args.at c.name-end-end.result i e in
+          let i = word_end c.args.text.now bs rest c.args.at c.name_end-end.result s.within.0 s.within.1 s.all s.stops n.0 e un in
+          let w = word_is c.args.text.now bs rest c.args.at c.name_end-end.result i e in
           let found : Number (map spelled c.args.acts.now) bs number = subst (λ v. Number (map spelled c.args.acts.now) v number) w c.in-Some.ensures in
           rw n.1
           (record {

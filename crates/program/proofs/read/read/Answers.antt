@@ -26,7 +26,7 @@ returns-then-whole-text c =
       one = one_program;
       says =
           let e = whole_end c.args.text.now (map spelled c.args.acts.now) c.new-draft.result c.sum.new.draft c.new-draft.ensures
-          c.in-ok-check.ensures c.in-ok-whole.whole c.in-ok-whole.ensures.reads in
+          c.in_ok-check.ensures c.in_ok-whole.whole c.in_ok-whole.ensures.reads in
           absurd (omega arith);
     }
 
@@ -36,7 +36,7 @@ returns-then-draft-gt15 c =
       names = search rules;
       one = one_program;
       says = whole_many c.args.text.now (map spelled c.args.acts.now) c.new-draft.result c.sum.new.draft c.new-draft.ensures
-          c.in-ok-check.ensures c.in-ok-whole.whole c.in-ok-whole.ensures.reads c.if-draft-gt15.true;
+          c.in_ok-check.ensures c.in_ok-whole.whole c.in_ok-whole.ensures.reads c.if-draft-gt15.true;
     }
 
 pub returns : goal.returns
@@ -45,7 +45,7 @@ returns c =
       names = search rules;
       one = one_program;
       says = whole_row c.args.text.now (map spelled c.args.acts.now) c.new-draft.result c.sum.new.draft c.new-draft.ensures
-          c.in-ok-check.ensures c.in-ok-whole.whole c.in-ok-whole.ensures.reads c.if-draft-gt15.false;
+          c.in_ok-check.ensures c.in_ok-whole.whole c.in_ok-whole.ensures.reads c.if-draft-gt15.false;
     }
 
 pub returns-in-err-check : goal.returns-in-err-check

@@ -5,7 +5,7 @@ use Rattle.program.proofs.States.{accepts_by_parts, nullable_is_empty}
 use Rattle.program.proofs.automaton.Automaton.new.Goals as goal
 use Rattle.program.proofs.automaton.Automaton.new.Goals.{Joined-row, then-row, else-row}
 
-made : (c : Joined-row) → Made c.args.row.now c.states-states.result c.loop-i.next c.named-named.result c.all-of-all.result c.if-row.start
+made : (c : Joined-row) → Made c.args.row.now c.states-states.result c.loop-i.next c.named-named.result c.all_of-all.result c.if-row.start
 made c =
     let start = c.if-row.start in
     let empty = c.args.row.now.nullable in
@@ -13,7 +13,7 @@ made c =
     elim c.if-row.branch [ then-row w ↦ inl (w.start-is, w.if-row.true) | else-row w ↦ inr (w.start-is, w.if-row.false) ] in
     record {
       count = c.states-states.ensures.count;
-      mask = c.all-of-all.ensures;
+      mask = c.all_of-all.ensures;
       long = c.loop-i.invariant.0;
       by = c.named-named.ensures;
       zeroth = c.loop-i.invariant.1;
