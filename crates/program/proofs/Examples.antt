@@ -1,8 +1,7 @@
 -- Worked examples of the definitions: the program (a+b)*;a over the actions a = 0 and b = 1.
-use Rattle.std.proofs.Common.{◌≡◌, ℕ, false, List, [], ◌∷◌, ◌++◌, codes, refl, inl, inr, arith}
+use Rattle.std.proofs.Common.{◌≡◌, ℕ, false, List, [], ◌∷◌, ◌++◌, refl, inl, inr, arith}
 use Rattle.program.specs.Words.{Program, act, either, seq, star, Words}
 use Rattle.program.specs.Automata.{names, nullable, Leads, Final}
-use Rattle.program.specs.Text.{Tree, leaf, choice, chain, repeat}
 
 ends_in_a : Program
 ends_in_a = seq (star (either (act 0) (act 1))) (act 0)

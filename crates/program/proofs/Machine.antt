@@ -6,7 +6,7 @@ use Rattle.std.proofs.lemmas.Nat.{pow_below}
 use Rattle.std.proofs.lemmas.List.{get_or_past}
 use Rattle.std.proofs.lemmas.Bool.{cases_lt, both_ways}
 use Rattle.program.specs.Words.{Program}
-use Rattle.program.specs.Automata.{names, nullable, First, Follow, Leads, Final, Accepts}
+use Rattle.program.specs.Automata.{names, First, Follow, Leads, Final, Accepts}
 use Rattle.program.specs.Masks.{Bit, Marks, cell}
 use Rattle.program.specs.Rows.{RowOf}
 use Rattle.program.specs.Tables.{AutomatonOf, Accepted, AcceptsWordsOf}

@@ -8,37 +8,37 @@ use Rattle.document.proofs.Lined.{act_count, act_name, act_below, act_done}
 use Rattle.document.proofs.Refused.{refused}
 use Rattle.document.proofs.lines.act_line.Goals as goal
 
-pub returns-in-err-counted : goal.returns-in-err-counted
-returns-in-err-counted c = λ w d h.
-    refused (Declares d c.args.line.now) d c.args.line.now c.from-residual.result c.in-err-counted.field-0.0 Shape c.from-residual.ensures.1
-    c.in-err-counted.ensures.0 (act_count c.args.declared c.args.line.now w d c.in-err-counted.ensures.1)
+pub returns-in_err-counted : goal.returns-in_err-counted
+returns-in_err-counted c = λ w d h.
+    refused (Declares d c.args.line.now) d c.args.line.now c.from_residual.result c.in_err-counted.field-0.0 Shape c.from_residual.ensures.1
+    c.in_err-counted.ensures.0 (act_count c.args.declared c.args.line.now w d c.in_err-counted.ensures.1)
 
-pub returns-in-err-name : goal.returns-in-err-name
-returns-in-err-name c = λ w d h.
-    refused (Declares d c.args.line.now) d c.args.line.now c.from-residual-in-err-name.result c.in-err-name.field-0.0 Shape
-    c.from-residual-in-err-name.ensures.1 c.in-err-name.ensures.0
-    (act_name c.args.declared c.args.line.now w d (λ n. c.in-err-name.ensures.1 (subst Named (sym c.field-text.ensures) n)))
+pub returns-in_err-name : goal.returns-in_err-name
+returns-in_err-name c = λ w d h.
+    refused (Declares d c.args.line.now) d c.args.line.now c.from_residual-in_err-name.result c.in_err-name.field-0.0 Shape
+    c.from_residual-in_err-name.ensures.1 c.in_err-name.ensures.0
+    (act_name c.args.declared c.args.line.now w d (λ n. c.in_err-name.ensures.1 (subst Named (sym c.field-text.ensures) n)))
 
-pub returns-in-err-new-below : goal.returns-in-err-new-below
-returns-in-err-new-below c = λ w d h.
+pub returns-in_err-new_below : goal.returns-in_err-new_below
+returns-in_err-new_below c = λ w d h.
     let s = c.args.declared in
     let bytes = c.args.line.now in
-    let f = c.in-err-new-below.field-0.0 in
-    refused (Declares d bytes) d bytes c.from-residual-in-err-new-below.result f f c.from-residual-in-err-new-below.ensures.1 refl
-    (act_below s bytes w f c.in-ok-counted.ensures (subst Named c.field-text.ensures c.in-ok-name.ensures.0)
+    let f = c.in_err-new_below.field-0.0 in
+    refused (Declares d bytes) d bytes c.from_residual-in_err-new_below.result f f c.from_residual-in_err-new_below.ensures.1 refl
+    (act_below s bytes w f c.in_ok-counted.ensures (subst Named c.field-text.ensures c.in_ok-name.ensures.0)
     (subst (λ n. NewBelow (names_of s.acts) s.acts.count n 16 f) c.field-text.ensures
-    (subst (λ v. NewBelow (names_of v) v.count c.field-text.result.now 16 f) c.acts.ensures.is c.in-err-new-below.ensures.is))
+    (subst (λ v. NewBelow (names_of v) v.count c.field-text.result.now 16 f) c.acts.ensures.is c.in_err-new_below.ensures.is))
     d h)
 
 pub returns : goal.returns
 returns c = λ w d h.
     let s = c.args.declared in
     let bytes = c.args.line.now in
-    let next = c.with-act.result in
+    let next = c.with_act.result in
     let text : c.field-text.result.now ≡ get_or (fields bytes) 1 [] = c.field-text.ensures in
-    let name : spelled c.in-ok-name.name ≡ get_or (fields bytes) 1 [] = c.in-ok-name.ensures.1 ∙ text in
-    let few : s.acts.count < 16 = subst (λ v. v.count < 16) c.acts.ensures.is c.in-ok-new-below.ensures.below in
-    act_done s bytes w next c.in-ok-counted.ensures (subst Named text c.in-ok-name.ensures.0)
+    let name : spelled c.in_ok-name.name ≡ get_or (fields bytes) 1 [] = c.in_ok-name.ensures.1 ∙ text in
+    let few : s.acts.count < 16 = subst (λ v. v.count < 16) c.acts.ensures.is c.in_ok-new_below.ensures.below in
+    act_done s bytes w next c.in_ok-counted.ensures (subst Named text c.in_ok-name.ensures.0)
     (subst (Missing (names_of s.acts)) text
-    (subst (λ v. Missing (names_of v) c.field-text.result.now) c.acts.ensures.is c.in-ok-new-below.ensures.is))
-    few (c.with-act.ensures.acts ∙ ap (λ n. names_of s.acts ++ n ∷ []) name) c.with-act.ensures.rest d h
+    (subst (λ v. Missing (names_of v) c.field-text.result.now) c.acts.ensures.is c.in_ok-new_below.ensures.is))
+    few (c.with_act.ensures.acts ∙ ap (λ n. names_of s.acts ++ n ∷ []) name) c.with_act.ensures.rest d h

@@ -9,35 +9,35 @@ use Rattle.document.proofs.Lined.{goal_count, goal_name, goal_unknown, goal_earl
 use Rattle.document.proofs.Refused.{refused}
 use Rattle.document.proofs.lines.goal_line.Goals as goal
 
-pub returns-in-err-counted : goal.returns-in-err-counted
-returns-in-err-counted c = λ w d h.
-    refused (Aims c.args.declared d c.args.line.now) d c.args.line.now c.from-residual.result c.in-err-counted.field-0.0 Shape c.from-residual.ensures.1
-    c.in-err-counted.ensures.0 (goal_count c.args.declared c.args.line.now w d c.in-err-counted.ensures.1)
+pub returns-in_err-counted : goal.returns-in_err-counted
+returns-in_err-counted c = λ w d h.
+    refused (Aims c.args.declared d c.args.line.now) d c.args.line.now c.from_residual.result c.in_err-counted.field-0.0 Shape c.from_residual.ensures.1
+    c.in_err-counted.ensures.0 (goal_count c.args.declared c.args.line.now w d c.in_err-counted.ensures.1)
 
-pub returns-then-not-is-name : goal.returns-then-not-is-name
-returns-then-not-is-name c = λ w d h.
+pub returns-then-not-is_name : goal.returns-then-not-is_name
+returns-then-not-is_name c = λ w d h.
     goal_name c.args.declared c.args.line.now w d
-    (λ n. both_ways c.is-name.result c.if-not-is-name.true (c.is-name.ensures.1 (subst Named (sym c.field-text.ensures) n)))
+    (λ n. both_ways c.is_name.result c.if-not-is_name.true (c.is_name.ensures.1 (subst Named (sym c.field-text.ensures) n)))
 
-pub returns-in-err-goal : goal.returns-in-err-goal
-returns-in-err-goal c = λ w d h.
+pub returns-in_err-goal : goal.returns-in_err-goal
+returns-in_err-goal c = λ w d h.
     let s = c.args.declared in
     let bytes = c.args.line.now in
     let text = c.field-text.ensures in
-    refused (Aims s d bytes) d bytes c.from-residual-in-err-goal.result c.in-err-goal.field-0.0 Naming
-    c.from-residual-in-err-goal.ensures.1 c.in-err-goal.ensures.is.0
-    (goal_unknown s bytes w c.in-ok-counted.ensures (subst Named text (c.is-name.ensures.0 c.if-not-is-name.false))
-    (subst (Missing (names_of s.forms)) text (subst (λ v. Missing (names_of v) c.field-text.result.now) c.forms.ensures.is c.in-err-goal.ensures.is.1)) d h)
+    refused (Aims s d bytes) d bytes c.from_residual-in_err-goal.result c.in_err-goal.field-0.0 Naming
+    c.from_residual-in_err-goal.ensures.1 c.in_err-goal.ensures.is.0
+    (goal_unknown s bytes w c.in_ok-counted.ensures (subst Named text (c.is_name.ensures.0 c.if-not-is_name.false))
+    (subst (Missing (names_of s.forms)) text (subst (λ v. Missing (names_of v) c.field-text.result.now) c.forms.ensures.is c.in_err-goal.ensures.is.1)) d h)
 
 pub returns-then-count-eq0 : goal.returns-then-count-eq0
 returns-then-count-eq0 c = λ w d h.
     let s = c.args.declared in
     let bytes = c.args.line.now in
     let text = c.field-text.ensures in
-    let i = c.in-ok-goal.goal in
+    let i = c.in_ok-goal.goal in
     let none : s.acts.count ≡ 0 = subst (λ v. v.count ≡ 0) c.acts.ensures.is (sym c.count.ensures.is ∙ c.if-count-eq0.true) in
-    goal_early s bytes w c.in-ok-counted.ensures (subst Named text (c.is-name.ensures.0 c.if-not-is-name.false)) i
-    (subst (λ n. Number (names_of s.forms) n i) text (subst (λ v. Number (names_of v) c.field-text.result.now i) c.forms.ensures.is c.in-ok-goal.ensures.is))
+    goal_early s bytes w c.in_ok-counted.ensures (subst Named text (c.is_name.ensures.0 c.if-not-is_name.false)) i
+    (subst (λ n. Number (names_of s.forms) n i) text (subst (λ v. Number (names_of v) c.field-text.result.now i) c.forms.ensures.is c.in_ok-goal.ensures.is))
     none d h
 
 pub returns : goal.returns
@@ -45,10 +45,10 @@ returns c = λ w d h.
     let s = c.args.declared in
     let bytes = c.args.line.now in
     let text = c.field-text.ensures in
-    let i = c.in-ok-goal.goal in
+    let i = c.in_ok-goal.goal in
     let doc = c.new.result in
     let count : c.count.result ≡ s.acts.count = c.count.ensures.is ∙ ap (λ v. v.count) c.acts.ensures.is in
-    goal_done s bytes w c.in-ok-counted.ensures (subst Named text (c.is-name.ensures.0 c.if-not-is-name.false)) doc
+    goal_done s bytes w c.in_ok-counted.ensures (subst Named text (c.is_name.ensures.0 c.if-not-is_name.false)) doc
     (subst (λ k. Number (names_of s.forms) (get_or (fields bytes) 1 []) k) (sym c.new.ensures.goal)
-    (subst (λ n. Number (names_of s.forms) n i) text (subst (λ v. Number (names_of v) c.field-text.result.now i) c.forms.ensures.is c.in-ok-goal.ensures.is)))
+    (subst (λ n. Number (names_of s.forms) n i) text (subst (λ v. Number (names_of v) c.field-text.result.now i) c.forms.ensures.is c.in_ok-goal.ensures.is)))
     (omega arith) c.new.ensures.declared d h

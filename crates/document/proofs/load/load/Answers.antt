@@ -23,32 +23,32 @@ pub loop-at-preserved : goal.loop-at-preserved
 loop-at-preserved c =
     let text = c.args.text.now in
     let at = c.loop-at.at in
-    let end = c.next-place-end.result in
-    let s = c.next-place-end.ensures in
+    let end = c.next_place-end.result in
+    let s = c.next_place-end.ensures in
     let old = c.loop-at.progress in
-    let next = c.in-ok-progress.progress in
-    let whole : end < length text = ltb-true end (length text) c.in-ok-progress.ensures.whole in (
+    let next = c.in_ok-progress.progress in
+    let whole : end < length text = ltb-true end (length text) c.in_ok-progress.ensures.whole in (
       omega (arith, c.loop-at.invariant, s.within),
       omega arith,
       reached_more text at end c.loop-at.number old s.within.0 s.within.1 c.loop-at-test.true s.before s.here c.loop-at.invariant.2 next whole
-          (subst (λ v. LineRead old (take (end - at) (drop at text)) v (Ok next)) c.in-ok-progress.ensures.whole c.in-ok-progress.ensures.reads),
+          (subst (λ v. LineRead old (take (end - at) (drop at text)) v (Ok next)) c.in_ok-progress.ensures.whole c.in_ok-progress.ensures.reads),
     )
 
 pub returns-then-text-gt16384 : goal.returns-then-text-gt16384
 returns-then-text-gt16384 c = record { long = λ _. refl; short = λ h e. omega arith; one = one_outcome; exactly = accepted_exactly; single = one_document; loaded = too_long c.if-text-gt16384.true; line = omega arith }
 
-pub returns-in-err-progress : goal.returns-in-err-progress
-returns-in-err-progress c =
+pub returns-in_err-progress : goal.returns-in_err-progress
+returns-in_err-progress c =
     let text = c.args.text.now in
     let at = c.loop-at.at in
-    let end = c.next-place-end.result in
-    let s = c.next-place-end.ensures in
-    let f = c.in-err-progress.field-0.0 in
-    let p = err_from_is_err_and c.from-residual.result c.from-residual.ensures.1 in
-    let is : c.from-residual.result ≡ Err (Line f) = p.1 ∙ ap Err p.2 in
-    let number : f.line ≡ c.loop-at.number = c.in-err-progress.ensures.whole in
+    let end = c.next_place-end.result in
+    let s = c.next_place-end.ensures in
+    let f = c.in_err-progress.field-0.0 in
+    let p = err_from_is_err_and c.from_residual.result c.from_residual.ensures.1 in
+    let is : c.from_residual.result ≡ Err (Line f) = p.1 ∙ ap Err p.2 in
+    let number : f.line ≡ c.loop-at.number = c.in_err-progress.ensures.whole in
     let comes = reached_fault text at end c.loop-at.number c.loop-at.progress s.within.0 s.within.1 c.loop-at-test.true s.before s.here c.loop-at.invariant.2
-    f.fault _ (ltb-true end (length text)) (ltb-false end (length text)) c.in-err-progress.ensures.reads in
+    f.fault _ (ltb-true end (length text)) (ltb-false end (length text)) c.in_err-progress.ensures.reads in
     record {
       long = λ h. absurd (omega arith);
       short = λ h e. let same : Err (Line f) ≡ Err TooLong = sym is ∙ e in let z : ◌≡◌ {A = ℕ} 0 1 = cc same in omega arith;

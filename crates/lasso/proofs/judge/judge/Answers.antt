@@ -31,7 +31,7 @@ pub loop-e-init : goal.loop-e-init
 loop-e-init c d J = judged_none d c.args.steps.now c.args.stem c.clear.new.words (λ k l. c.clear.ensures k (omega arith))
 
 pub loop-e-preserved : goal.loop-e-preserved
-loop-e-preserved c d J = c.judge-form.ensures d J (c.loop-e.invariant d J)
+loop-e-preserved c d J = c.judge_form.ensures d J (c.loop-e.invariant d J)
 
 pub returns : goal.returns
 returns c = record {

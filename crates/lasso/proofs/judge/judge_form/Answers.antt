@@ -15,12 +15,12 @@ returns-in-Until c d J j =
     let is : Until f p g ≡ form_at d e = sym c.in-Until.is ∙ c.form-form.ensures.is c.requires.form.1 ∙ J.lines e b in
     let r : Refers d e (Until f p g) = subst (Refers d e) (sym is) (J.good.refers e b) in
     let of = c.new-automaton.ensures.made (program_at d p) (subst (RowOf (program_at d p)) (sym c.row.ensures) (J.rows p r.1)) in
-    c.judge-until.ensures d
+    c.judge_until.ensures d
     (until_so d c.args.steps.now c.args.stem c.requires.stem J.low e f p g J.good b is c.new-automaton.result of
-    c.args.truths.now c.fixed-point.new.states j c.fixed-point.ensures)
+    c.args.truths.now c.fixed_point.new.states j c.fixed_point.ensures)
     j
 
-pub returns-in-default : goal.returns-in-default
-returns-in-default c d J j =
+pub returns-in_default : goal.returns-in_default
+returns-in_default c d J j =
     let b : c.args.e < length d.forms = omega (arith, J.count) in
-    c.judge-plain.ensures d J.good b (c.form-form.ensures.is c.requires.form.1 ∙ J.lines c.args.e b) j
+    c.judge_plain.ensures d J.good b (c.form-form.ensures.is c.requires.form.1 ∙ J.lines c.args.e b) j

@@ -17,7 +17,7 @@ loop-i-preserved c =
     let i = c.loop-i.i in
     let line = ap (λ (d : Declared). step_line (acts_of d) (props_of d) (ltb i c.args.stem) (step_in steps i)) c.declared-declared.ensures in
     let is = wrote_as (lines_from acts props c.args.stem 0 (take (i + 1) steps)) (wrote_then {at = 0} (record { next = omega (arith, c.loop-i.invariant.1); text = c.loop-i.invariant.2 })
-    (wrote_as (step_line acts props (ltb i c.args.stem) (step_in steps i)) (record { next = c.put-step-at.ensures.next; text = c.put-step-at.ensures.text }) line))
+    (wrote_as (step_line acts props (ltb i c.args.stem) (step_in steps i)) (record { next = c.put_step-at.ensures.next; text = c.put_step-at.ensures.text }) line))
     (sym (lines_more acts props c.args.stem steps i _ (omega arith))) in
     (omega arith, omega (arith, is.next), is.text)
 

@@ -2,7 +2,7 @@ use Rattle.std.proofs.Common.{length, inl, inr, arith}
 use Rattle.lasso.specs.DeclaredNames.{acts_of, props_of}
 use Rattle.lasso.proofs.Fills.{going_none, going_read, going_more, going_all}
 use Rattle.lasso.proofs.scan.fill.Goals as goal
-use Rattle.lasso.proofs.scan.fill.Goals.{in-Ok, in-default}
+use Rattle.lasso.proofs.scan.fill.Goals.{in-Ok, in_default}
 
 pub loop-at-init : goal.loop-at-init
 loop-at-init c = (
@@ -12,19 +12,19 @@ loop-at-init c = (
 
 pub loop-at-preserved : goal.loop-at-preserved
 loop-at-preserved c =
-    let p = c.next-place-end.ensures in
+    let p = c.next_place-end.ensures in
     let acts = acts_of c.args.declared.now in
     let props = props_of c.args.declared.now in (
       omega arith,
       λ ss r l.
           let g = c.loop-at.invariant.1 ss r l in
-          elim c.match-read-line.branch [
+          elim c.match-read_line.branch [
             | in-Ok w ↦
-                going_more acts props c.args.text.now (length ss) c.loop-at.at c.next-place-end.result c.loop-at.number c.args.steps.now c.loop-at.steps
-                c.loop-at-test.true p.within.0 p.within.1 p.before p.here g l w.in-Ok.read w.in-Ok.ensures c.match-read-line.steps w.steps-is
-            | in-default w ↦
-                absurd (going_read acts props c.args.text.now (length ss) c.loop-at.at c.next-place-end.result c.loop-at.number c.args.steps.now c.loop-at.steps
-                c.loop-at-test.true p.within.0 p.within.1 p.before p.here g _ w.in-default.ensures)
+                going_more acts props c.args.text.now (length ss) c.loop-at.at c.next_place-end.result c.loop-at.number c.args.steps.now c.loop-at.steps
+                c.loop-at-test.true p.within.0 p.within.1 p.before p.here g l w.in-Ok.read w.in-Ok.ensures c.match-read_line.steps w.steps-is
+            | in_default w ↦
+                absurd (going_read acts props c.args.text.now (length ss) c.loop-at.at c.next_place-end.result c.loop-at.number c.args.steps.now c.loop-at.steps
+                c.loop-at-test.true p.within.0 p.within.1 p.before p.here g _ w.in_default.ensures)
           ],
     )
 

@@ -4,21 +4,21 @@ use Rattle.lasso.proofs.StepLines.{exit_at}
 use Rattle.lasso.proofs.Surveys.{passed_refused, passed_more, passed_all}
 use Rattle.lasso.proofs.scan.survey.Goals as goal
 
-pub returns-in-err-read : goal.returns-in-err-read
-returns-in-err-read c =
-    let p = c.next-place-end.ensures in
-    let e = c.in-err-read.ensures in
-    exit_at c.from-residual.result c.in-err-read.field-0.0 _ _ c.from-residual.ensures.1
-    (passed_refused (acts_of c.args.declared.now) (props_of c.args.declared.now) c.args.text.now c.loop-at.at c.next-place-end.result p.within.0 c.loop-at.seen c.loop-at.invariant
+pub returns-in_err-read : goal.returns-in_err-read
+returns-in_err-read c =
+    let p = c.next_place-end.ensures in
+    let e = c.in_err-read.ensures in
+    exit_at c.from_residual.result c.in_err-read.field-0.0 _ _ c.from_residual.ensures.1
+    (passed_refused (acts_of c.args.declared.now) (props_of c.args.declared.now) c.args.text.now c.loop-at.at c.next_place-end.result p.within.0 c.loop-at.seen c.loop-at.invariant
     c.loop-at-test.true p.within.1 p.before p.here _ _ e.0 e.1)
 
 pub loop-at-preserved : goal.loop-at-preserved
 loop-at-preserved c =
-    let p = c.next-place-end.ensures in
-    let e = c.in-ok-read.ensures in
+    let p = c.next_place-end.ensures in
+    let e = c.in_ok-read.ensures in
     let l = ltb-true _ _ e.0 in
-    passed_more (acts_of c.args.declared.now) (props_of c.args.declared.now) c.args.text.now c.loop-at.at c.next-place-end.result p.within.0 c.loop-at.seen c.loop-at.invariant
-    l p.before (p.here l) c.in-ok-read.read e.1 c.with-seen.result c.with-seen.ensures
+    passed_more (acts_of c.args.declared.now) (props_of c.args.declared.now) c.args.text.now c.loop-at.at c.next_place-end.result p.within.0 c.loop-at.seen c.loop-at.invariant
+    l p.before (p.here l) c.in_ok-read.read e.1 c.with-seen.result c.with-seen.ensures
 
 pub returns : goal.returns
 returns c = passed_all (acts_of c.args.declared.now) (props_of c.args.declared.now) c.args.text.now c.loop-at.at c.loop-at.seen c.loop-at-test.false c.loop-at.invariant

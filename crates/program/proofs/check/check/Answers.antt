@@ -12,9 +12,9 @@ read-preserved c = (
       (ap (stepped c.read.prefix) (sym c.from.ensures) ∙ sym c.step.ensures ∙ c.in-Some.is),
 )
 
-pub returns-then-is-whole : goal.returns-then-is-whole
-returns-then-is-whole c =
-    ends_whole c.args.text.now c.read.at c.read.prefix (omega arith) c.read.invariant.1 (sym c.is-whole.ensures ∙ c.if-is-whole.true)
+pub returns-then-is_whole : goal.returns-then-is_whole
+returns-then-is_whole c =
+    ends_whole c.args.text.now c.read.at c.read.prefix (omega arith) c.read.invariant.1 (sym c.is_whole.ensures ∙ c.if-is_whole.true)
 
 pub returns : goal.returns
 returns c =
@@ -22,9 +22,9 @@ returns c =
     elim c.if-at-text.branch [
       | at-the-end w ↦
           subst (λ v. FaultAt text (v + 1)) (sym w.column-is)
-          (ends_early text c.read.at c.read.prefix c.read.invariant.0 w.if-at-text.true c.read.invariant.1 (sym w.is_whole.ensures ∙ w.if-is-whole.left))
+          (ends_early text c.read.at c.read.prefix c.read.invariant.0 w.if-at-text.true c.read.invariant.1 (sym w.is_whole.ensures ∙ w.if-is_whole.false))
       | at-a-byte w ↦
           subst (λ v. FaultAt text (v + 1)) (sym w.column-is)
-          (ends_refused text c.read.at c.read.prefix w.if-at-text.left c.read.invariant.1
+          (ends_refused text c.read.at c.read.prefix w.if-at-text.false c.read.invariant.1
           (ap (stepped c.read.prefix) (sym w.from.ensures) ∙ sym w.step.ensures ∙ w.in-None.is))
     ]

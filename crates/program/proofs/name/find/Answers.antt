@@ -1,8 +1,8 @@
-use Rattle.std.proofs.Common.{[], map, sym, ◌∙◌, arith, below_more}
+use Rattle.std.proofs.Common.{[], sym, ◌∙◌, arith, below_more}
 use lib.ListN.{length-map}
 use Rattle.std.proofs.lemmas.List.{get_or-map}
 use Rattle.std.proofs.lemmas.Bool.{both_ways}
-use Rattle.program.specs.Names.{spelled, Absent}
+use Rattle.program.specs.Names.{spelled}
 use Rattle.program.proofs.name.find.Goals as goal
 
 pub returns-then-is : goal.returns-then-is

@@ -8,18 +8,18 @@ use Rattle.program.proofs.read.+atom_factor_sequence_sum.Goals.{atom-else-at-tex
 use Rattle.program.proofs.read.+atom_factor_sequence_sum.Goals.{sequence-else-end-text-via-then-end-text+else-text-end-eq59 as Semi-other, sequence-else-end-text-via-else-end-text as semi-end}
 use Rattle.program.proofs.read.+atom_factor_sequence_sum.Goals.{sum-else-end-text-via-then-end-text+else-text-end-eq43 as plus-other, sum-else-end-text-via-else-end-text as plus-end}
 
-pub atom-returns-in-err-inside : goal.atom-returns-in-err-inside
-atom-returns-in-err-inside t c =
+pub atom-returns-in_err-inside : goal.atom-returns-in_err-inside
+atom-returns-in_err-inside t c =
     let text = c.args.text.now in
     let at = c.args.at in
     let acts = map spelled c.args.acts.now in
     let old = c.args.draft.now in
-    let e = err_is c.from-residual.ensures.1 in
+    let e = err_is c.from_residual.ensures.1 in
     record {
       bound = search rules;
       reads = subst (ReadsAtom text at acts old c.sum.new.draft) (sym e)
-          (atom_err text at acts old c.sum.new.draft c.in-err-inside.field-0.0 (c.if-at-text.true, c.if-text-at-eq40.true)
-          c.in-err-inside.ensures.reads);
+          (atom_err text at acts old c.sum.new.draft c.in_err-inside.field-0.0 (c.if-at-text.true, c.if-text-at-eq40.true)
+          c.in_err-inside.ensures.reads);
     }
 
 pub atom-returns-then-text-at-eq40 : goal.atom-returns-then-text-at-eq40
@@ -47,17 +47,17 @@ atom-returns t c =
           (λ h. elim c.else-at-text.branch [ open-other w ↦ w.if-text-at-eq40.false h.1 | open-end w ↦ omega (arith, h.0, w.if-at-text.false) ]);
     }
 
-pub factor-returns-in-err-base : goal.factor-returns-in-err-base
-factor-returns-in-err-base t c =
+pub factor-returns-in_err-base : goal.factor-returns-in_err-base
+factor-returns-in_err-base t c =
     let text = c.args.text.now in
     let at = c.args.at in
     let acts = map spelled c.args.acts.now in
     let old = c.args.draft.now in
-    let e = err_is c.from-residual.ensures.1 in
+    let e = err_is c.from_residual.ensures.1 in
     record {
       bound = search rules;
       reads = subst (ReadsPart factor text at acts old c.atom.new.draft) (sym e)
-          (factor_err text at acts old c.atom.new.draft c.in-err-base.field-0.0 c.in-err-base.ensures.reads);
+          (factor_err text at acts old c.atom.new.draft c.in_err-base.field-0.0 c.in_err-base.ensures.reads);
     }
 
 pub factor-returns-then-end-base : goal.factor-returns-then-end-base
@@ -87,32 +87,32 @@ factor-returns t c =
           c.if-end-base.false c.connect.ensures c.starred.ensures.end c.starred.ensures.is;
     }
 
-pub sequence-returns-in-err-left : goal.sequence-returns-in-err-left
-sequence-returns-in-err-left t c =
+pub sequence-returns-in_err-left : goal.sequence-returns-in_err-left
+sequence-returns-in_err-left t c =
     let text = c.args.text.now in
     let at = c.args.at in
     let acts = map spelled c.args.acts.now in
     let old = c.args.draft.now in
-    let e = err_is c.from-residual.ensures.1 in
+    let e = err_is c.from_residual.ensures.1 in
     record {
       bound = search rules;
       reads = subst (ReadsPart sequence text at acts old c.factor.new.draft) (sym e)
-          (sequence_left_err text at acts old c.factor.new.draft c.in-err-left.field-0.0 c.in-err-left.ensures.reads);
+          (sequence_left_err text at acts old c.factor.new.draft c.in_err-left.field-0.0 c.in_err-left.ensures.reads);
     }
 
-pub sequence-returns-in-err-right : goal.sequence-returns-in-err-right
-sequence-returns-in-err-right t c =
+pub sequence-returns-in_err-right : goal.sequence-returns-in_err-right
+sequence-returns-in_err-right t c =
     let text = c.args.text.now in
     let at = c.args.at in
     let acts = map spelled c.args.acts.now in
     let old = c.args.draft.now in
-    let e = err_is c.from-residual-in-err-right.ensures.1 in
+    let e = err_is c.from_residual-in_err-right.ensures.1 in
     record {
       bound = search rules;
       reads = subst (ReadsPart sequence text at acts old c.sequence.new.draft) (sym e)
-          (sequence_right_err text at acts old c.factor.new.draft c.sequence.new.draft c.in-ok-left.left
-          c.in-err-right.field-0.0 c.in-ok-left.ensures.reads (c.if-end-text.true, c.if-text-end-eq59.true)
-          c.in-err-right.ensures.reads);
+          (sequence_right_err text at acts old c.factor.new.draft c.sequence.new.draft c.in_ok-left.left
+          c.in_err-right.field-0.0 c.in_ok-left.ensures.reads (c.if-end-text.true, c.if-text-end-eq59.true)
+          c.in_err-right.ensures.reads);
     }
 
 pub sequence-returns-then-text-end-eq59 : goal.sequence-returns-then-text-end-eq59
@@ -140,31 +140,31 @@ sequence-returns t c =
           (λ h. elim c.else-end-text.branch [ Semi-other w ↦ w.if-text-end-eq59.false h.1 | semi-end w ↦ omega (arith, h.0, w.if-end-text.false) ]);
     }
 
-pub sum-returns-in-err-left : goal.sum-returns-in-err-left
-sum-returns-in-err-left t c =
+pub sum-returns-in_err-left : goal.sum-returns-in_err-left
+sum-returns-in_err-left t c =
     let text = c.args.text.now in
     let at = c.args.at in
     let acts = map spelled c.args.acts.now in
     let old = c.args.draft.now in
-    let e = err_is c.from-residual.ensures.1 in
+    let e = err_is c.from_residual.ensures.1 in
     record {
       bound = search rules;
       reads = subst (ReadsPart sum text at acts old c.sequence.new.draft) (sym e)
-          (sum_left_err text at acts old c.sequence.new.draft c.in-err-left.field-0.0 c.in-err-left.ensures.reads);
+          (sum_left_err text at acts old c.sequence.new.draft c.in_err-left.field-0.0 c.in_err-left.ensures.reads);
     }
 
-pub sum-returns-in-err-right : goal.sum-returns-in-err-right
-sum-returns-in-err-right t c =
+pub sum-returns-in_err-right : goal.sum-returns-in_err-right
+sum-returns-in_err-right t c =
     let text = c.args.text.now in
     let at = c.args.at in
     let acts = map spelled c.args.acts.now in
     let old = c.args.draft.now in
-    let e = err_is c.from-residual-in-err-right.ensures.1 in
+    let e = err_is c.from_residual-in_err-right.ensures.1 in
     record {
       bound = search rules;
       reads = subst (ReadsPart sum text at acts old c.sum.new.draft) (sym e)
-          (sum_right_err text at acts old c.sequence.new.draft c.sum.new.draft c.in-ok-left.left c.in-err-right.field-0.0
-          c.in-ok-left.ensures.reads (c.if-end-text.true, c.if-text-end-eq43.true) c.in-err-right.ensures.reads);
+          (sum_right_err text at acts old c.sequence.new.draft c.sum.new.draft c.in_ok-left.left c.in_err-right.field-0.0
+          c.in_ok-left.ensures.reads (c.if-end-text.true, c.if-text-end-eq43.true) c.in_err-right.ensures.reads);
     }
 
 pub sum-returns-then-text-end-eq43 : goal.sum-returns-then-text-end-eq43

@@ -6,17 +6,17 @@ use Rattle.program.proofs.Unique.{one_program}
 use Rattle.program.proofs.Whole.{malformed, whole_err, whole_end, whole_many, whole_row}
 use Rattle.program.proofs.read.read.Goals as goal
 
-pub returns-in-err-whole : goal.returns-in-err-whole
-returns-in-err-whole c =
+pub returns-in_err-whole : goal.returns-in_err-whole
+returns-in_err-whole c =
     let text = c.args.text.now in
     let acts = map spelled c.args.acts.now in
     record {
       names = search rules;
       one = one_program;
       says =
-          subst (λ r. MatchResult r (SpellsRow text acts) (Refused text acts)) (sym (err_is c.from-residual-in-err-whole.ensures.1))
-          (whole_err text acts c.new-draft.result c.sum.new.draft c.new-draft.ensures c.in-ok-check.ensures
-          c.in-err-whole.field-0.0 c.in-err-whole.ensures.reads);
+          subst (λ r. MatchResult r (SpellsRow text acts) (Refused text acts)) (sym (err_is c.from_residual-in_err-whole.ensures.1))
+          (whole_err text acts c.new-draft.result c.sum.new.draft c.new-draft.ensures c.in_ok-check.ensures
+          c.in_err-whole.field-0.0 c.in_err-whole.ensures.reads);
     }
 
 pub returns-then-whole-text : goal.returns-then-whole-text
@@ -48,13 +48,13 @@ returns c =
           c.in_ok-check.ensures c.in_ok-whole.whole c.in_ok-whole.ensures.reads c.if-draft-gt15.false;
     }
 
-pub returns-in-err-check : goal.returns-in-err-check
-returns-in-err-check c =
+pub returns-in_err-check : goal.returns-in_err-check
+returns-in_err-check c =
     let text = c.args.text.now in
     let acts = map spelled c.args.acts.now in
     record {
       names = search rules;
       one = one_program;
-      says = subst (λ r. MatchResult r (SpellsRow text acts) (Refused text acts)) (sym (err_is c.from-residual.ensures.1))
-          (malformed text acts c.in-err-check.field-0.0 c.in-err-check.ensures);
+      says = subst (λ r. MatchResult r (SpellsRow text acts) (Refused text acts)) (sym (err_is c.from_residual.ensures.1))
+          (malformed text acts c.in_err-check.field-0.0 c.in_err-check.ensures);
     }

@@ -10,7 +10,7 @@ loop-i-preserved g c =
     let d = c.args.declared in
     let xs = c.args.steps.now in
     below_more (λ k. StepGoes m d (step_in xs k) (step_in xs (next_place (length xs) c.args.stem k)).state) c.loop-i.i c.loop-i.invariant
-    (subst (λ n. StepGoes m d (step_in xs c.loop-i.i) (step_in xs n).state) c.after.ensures.is (c.if-not-step-goes.ensures.0 refl))
+    (subst (λ n. StepGoes m d (step_in xs c.loop-i.i) (step_in xs n).state) c.after.ensures.is (c.if-not-step_goes.ensures.0 refl))
 
 pub returns : goal.returns
 returns g c = (λ _. record { begins = sym c.if-not-starts.ensures; each = λ i h. c.loop-i.invariant i (omega arith) }, λ _. refl)

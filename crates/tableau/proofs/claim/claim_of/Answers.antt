@@ -18,8 +18,8 @@ returns-then-number-base c = λ d s.
     let l : e < length d.forms = omega arith in
     let there : e < held.forms.count = omega arith in
     let first : c.base-base.result ≡ get_or held.bases e 0 = c.base-base.ensures.is (omega arith) in
-    let w : c.weight-of.result ≡ weight_of d.progs (form_at d e) = c.weight-of.ensures.is ∙ ap (λ (f : Form). weight_in held.rows f) (c.form-form.ensures.is there) ∙ form_held held d s e l in
-    numbered held d s e c.args.c c.base-base.result (meant c.claim-in.result) l first c.if-base-number.true (c.claim-in.ensures d s l (omega arith))
+    let w : c.weight_of.result ≡ weight_of d.progs (form_at d e) = c.weight_of.ensures.is ∙ ap (λ (f : Form). weight_in held.rows f) (c.form-form.ensures.is there) ∙ form_held held d s e l in
+    numbered held d s e c.args.c c.base-base.result (meant c.claim_in.result) l first c.if-base-number.true (c.claim_in.ensures d s l (omega arith))
 
 pub loop-e-preserved : goal.loop-e-preserved
 loop-e-preserved c =
@@ -33,7 +33,7 @@ loop-e-preserved c =
     c.loop-e.e c.loop-e.invariant
     (λ low high. elim c.else-base-number.branch [
       | else-base-number-via-then-base-number+else-number-base w ↦
-          let weighs : w.weight-of.result ≡ weight_in held.rows (form_in held.lines e) = w.weight-of.ensures.is ∙ ap (λ (f : Form). weight_in held.rows f) (c.form-form.ensures.is there) in
+          let weighs : w.weight_of.result ≡ weight_in held.rows (form_in held.lines e) = w.weight_of.ensures.is ∙ ap (λ (f : Form). weight_in held.rows f) (c.form-form.ensures.is there) in
           omega arith
       | else-base-number-via-else-base-number w ↦ omega arith
     ])

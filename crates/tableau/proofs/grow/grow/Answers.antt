@@ -6,7 +6,7 @@ use Rattle.std.proofs.lemmas.Bool.{ltb-true, ltb-false}
 use Rattle.tableau.specs.Growing.{Sound}
 use Rattle.tableau.specs.UnitsHeld.{UnderWay}
 use Rattle.tableau.proofs.grow.grow.Goals as goal
-use Rattle.tableau.proofs.grow.grow.Goals.{then-loop-units-test+else-not-is-complete, else-loop-units-test}
+use Rattle.tableau.proofs.grow.grow.Goals.{then-loop-units-test+else-not-is_complete, else-loop-units-test}
 use Rattle.tableau.proofs.UnitsWorked.{Progress, progress_none, progress_more, grew_full, grew_complete, grew_more}
 
 -- tables of the same lengths
@@ -18,7 +18,7 @@ loop-units-init c = (c.requires.sound, omega arith, λ d way. progress_none c.ar
 
 pub unit-requires : goal.unit-requires
 unit-requires c =
-    let due : c.loop-units.now.units ≤ c.loop-units.now.used.nodes = ltb-false c.loop-units.now.used.nodes c.loop-units.now.units (sym c.is-complete.ensures ∙ c.if-not-is-complete.true) in
+    let due : c.loop-units.now.units ≤ c.loop-units.now.used.nodes = ltb-false c.loop-units.now.used.nodes c.loop-units.now.units (sym c.is_complete.ensures ∙ c.if-not-is_complete.true) in
     record { sound = resized c.args.nodes.now c.loop-units.nodes c.args.edges.now c.loop-units.edges c.loop-units.now (sym c.loop-units.auto.nodes) (sym c.loop-units.auto.edges) c.loop-units.invariant.0; due = due }
 
 pub loop-units-preserved : goal.loop-units-preserved
@@ -39,30 +39,30 @@ returns-in-None c = record {
   grew = λ d way.
       let p = c.loop-units.invariant.2 d way in
       let here : UnderWay c.args.document.now d c.loop-units.nodes c.loop-units.edges c.loop-units.now = record { shows = way.shows; goal = way.goal; stock = p.stock } in
-      let due : c.loop-units.now.units ≤ c.loop-units.now.used.nodes = ltb-false c.loop-units.now.used.nodes c.loop-units.now.units (sym c.is-complete.ensures ∙ c.if-not-is-complete.true) in
+      let due : c.loop-units.now.units ≤ c.loop-units.now.used.nodes = ltb-false c.loop-units.now.used.nodes c.loop-units.now.units (sym c.is_complete.ensures ∙ c.if-not-is_complete.true) in
       grew_full d c.args.nodes.now c.loop-units.nodes c.unit.new.nodes c.args.edges.now c.loop-units.edges c.unit.new.edges c.args.grown c.loop-units.now c.loop-units.units c.args.budget
       c.loop-units.auto.nodes c.loop-units.auto.edges c.loop-units.invariant.0 due c.loop-units-test.true p (c.in-None.ensures.works d here);
 }
 
-pub returns-then-is-complete : goal.returns-then-is-complete
-returns-then-is-complete c = record {
+pub returns-then-is_complete : goal.returns-then-is_complete
+returns-then-is_complete c = record {
   sound = c.loop-units.invariant.0;
   within = c.loop-units.invariant.1;
   grew = λ d way.
-      let done : c.loop-units.now.used.nodes < c.loop-units.now.units = ltb-true c.loop-units.now.used.nodes c.loop-units.now.units (sym c.is-complete-2.ensures ∙ c.if-is-complete.true) in
+      let done : c.loop-units.now.used.nodes < c.loop-units.now.units = ltb-true c.loop-units.now.used.nodes c.loop-units.now.units (sym c.is_complete-2.ensures ∙ c.if-is_complete.true) in
       grew_complete d c.args.nodes.now c.loop-units.nodes c.args.edges.now c.loop-units.edges c.args.grown c.loop-units.now c.loop-units.units c.args.budget
       c.loop-units.auto.nodes c.loop-units.invariant.0 done c.loop-units.invariant.1 (c.loop-units.invariant.2 d way);
 }
 
-pub returns-else-is-complete : goal.returns-else-is-complete
-returns-else-is-complete c = record {
+pub returns-else-is_complete : goal.returns-else-is_complete
+returns-else-is_complete c = record {
   sound = c.loop-units.invariant.0;
   within = c.loop-units.invariant.1;
   grew = λ d way.
-      let due : c.loop-units.now.units ≤ c.loop-units.now.used.nodes = ltb-false c.loop-units.now.used.nodes c.loop-units.now.units (sym c.is-complete-2.ensures ∙ c.if-is-complete.false) in
+      let due : c.loop-units.now.units ≤ c.loop-units.now.used.nodes = ltb-false c.loop-units.now.used.nodes c.loop-units.now.units (sym c.is_complete-2.ensures ∙ c.if-is_complete.false) in
       let within = c.loop-units.invariant.1 in
       let spent : c.loop-units.units ≡ c.args.budget = elim c.loop-units-test.branch [
-        | then-loop-units-test+else-not-is-complete w ↦ absurd (let done = ltb-true c.loop-units.now.used.nodes c.loop-units.now.units (sym w.is-complete.ensures ∙ w.if-not-is-complete.false) in omega arith)
+        | then-loop-units-test+else-not-is_complete w ↦ absurd (let done = ltb-true c.loop-units.now.used.nodes c.loop-units.now.units (sym w.is_complete.ensures ∙ w.if-not-is_complete.false) in omega arith)
         | else-loop-units-test w ↦ omega arith
       ] in
       grew_more d c.args.nodes.now c.loop-units.nodes c.args.edges.now c.loop-units.edges c.args.grown c.loop-units.now c.loop-units.units c.args.budget

@@ -12,8 +12,8 @@ use Rattle.tableau.proofs.open.+choose_try_target.Given as goal
 abbrev pub decreases-choose : goal.decreases-choose
 decreases-choose l = 2 * (256 - l.from) + 1
 
-abbrev pub decreases-try-target : goal.decreases-try-target
-decreases-try-target l = 2 * (256 - l.step.number)
+abbrev pub decreases-try_target : goal.decreases-try_target
+decreases-try_target l = 2 * (256 - l.step.number)
 
 abbrev pub invariant-choose-loop-target : goal.invariant-choose-loop-target
 invariant-choose-loop-target l =

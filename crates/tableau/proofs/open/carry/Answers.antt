@@ -12,15 +12,15 @@ loop-e-init c = (c.requires, λ d shows lt fine. added_none (calculus d c.args.r
 
 pub loop-e-preserved : goal.loop-e-preserved
 loop-e-preserved c = (
-  c.in-ok-all.ensures.stands,
+  c.in_ok-all.ensures.stands,
   λ d shows lt fine.
       let inv = c.loop-e.invariant.1 d shows lt fine in
       let count = c.count-e-end.ensures.is ∙ ap (λ v. v.count) c.forms.ensures.is ∙ shows.count in
-      added_more (By d c.args.node.now c.args.rules.phase) c.loop-e.e inv (c.in-ok-all.ensures.hands d shows (omega (arith, count, c.loop-e-test.true)) lt inv.fine),
+      added_more (By d c.args.node.now c.args.rules.phase) c.loop-e.e inv (c.in_ok-all.ensures.hands d shows (omega (arith, count, c.loop-e-test.true)) lt inv.fine),
 )
 
-pub returns-in-err-all : goal.returns-in-err-all
-returns-in-err-all c = record {
+pub returns-in_err-all : goal.returns-in_err-all
+returns-in_err-all c = record {
   stands = search rules;
   hands = λ d shows lt fine.
       let n = c.args.node.now in
@@ -28,8 +28,8 @@ returns-in-err-all c = record {
       let m = calculus d x in
       let inv = c.loop-e.invariant.1 d shows lt fine in
       let count = c.count-e-end.ensures.is ∙ ap (λ v. v.count) c.forms.ensures.is ∙ shows.count in
-      subst (Hands m (Handed d n x) (on c.args.trail.now) (on c.hand-on.new.trail)) (sym c.from-residual.ensures)
-      (clashed_weaken (Handed d n x) (λ y h. (handed_by d n x y).1 h) (clashed_more (By d n x) c.loop-e.e inv (c.in-err-all.ensures.hands d shows (omega (arith, count, c.loop-e-test.true)) lt inv.fine)));
+      subst (Hands m (Handed d n x) (on c.args.trail.now) (on c.hand_on.new.trail)) (sym c.from_residual.ensures)
+      (clashed_weaken (Handed d n x) (λ y h. (handed_by d n x y).1 h) (clashed_more (By d n x) c.loop-e.e inv (c.in_err-all.ensures.hands d shows (omega (arith, count, c.loop-e-test.true)) lt inv.fine)));
 }
 
 pub returns : goal.returns

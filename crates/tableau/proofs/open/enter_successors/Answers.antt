@@ -11,14 +11,14 @@ use Rattle.tableau.proofs.open.enter_successors.Goals as goal
 pub carry-requires : goal.carry-requires
 carry-requires c = stands_none c.empty.result.words c.empty.ensures
 
-pub returns-in-default : goal.returns-in-default
-returns-in-default c = record {
+pub returns-in_default : goal.returns-in_default
+returns-in_default c = record {
   empty = c.drop-guard.ensures.len;
   room = search rules;
   entered = λ d ready lt.
       let x = c.args.opening.rules.phase in
       let n = c.args.node.now in
-      let clashed = c.in-default.ensures.hands d ready.shows lt (fine_none (calculus d x)) in
+      let clashed = c.in_default.ensures.hands d ready.shows lt (fine_none (calculus d x)) in
       entered_none d x c.args.opening.origin (Succeeding d x n) (Heading d x n) c.args.nodes.now c.args.edges.now c.args.used (λ N h. heading_stuck d x n clashed.claims N clashed.listed clashed.stuck h);
 }
 

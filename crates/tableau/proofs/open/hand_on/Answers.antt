@@ -12,20 +12,20 @@ use Rattle.tableau.proofs.open.hand_on.Goals as goal
 
 pub returns-then-b-node : goal.returns-then-b-node
 returns-then-b-node c = record {
-  stands = c.add-next.ensures.stands;
+  stands = c.add_next.ensures.stands;
   hands = λ d shows there lt fine.
       let n = c.args.node.now in
       let is : form_at d c.args.e ≡ Next n.action c.in-Next.f = form_is c.args.rules.declared.now d c.args.e c.form.result (Next c.in-Next.b c.in-Next.f) shows there c.form.ensures.is c.in-Next.is ∙ ap (λ b. Next b c.in-Next.f) c.if-b-node.true in
-      hands_like (calculus d c.args.rules.phase) (λ y. (s : Sign) × Operand d n c.args.rules.phase c.args.e c.in-Next.f s y) (By d n c.args.rules.phase c.args.e) (on c.args.trail.now) (on c.add-next.new.trail) c.add-next.result
-      (by_next d n c.args.rules.phase c.args.e c.in-Next.f is) (c.add-next.ensures.hands d shows there is fine);
+      hands_like (calculus d c.args.rules.phase) (λ y. (s : Sign) × Operand d n c.args.rules.phase c.args.e c.in-Next.f s y) (By d n c.args.rules.phase c.args.e) (on c.args.trail.now) (on c.add_next.new.trail) c.add_next.result
+      (by_next d n c.args.rules.phase c.args.e c.in-Next.f is) (c.add_next.ensures.hands d shows there is fine);
 }
 
 pub returns-in-Until : goal.returns-in-Until
 returns-in-Until c = record {
-  stands = c.add-false-steps.ensures.stands;
+  stands = c.add_false_steps.ensures.stands;
   hands = λ d shows there lt fine.
       let n = c.args.node.now in
       let fated = ap is_until (form_is c.args.rules.declared.now d c.args.e c.form.result (Until c.in-Until.field-0 c.in-Until.field-1 c.in-Until.field-2) shows there c.form.ensures.is c.in-Until.is) in
-      hands_like (calculus d c.args.rules.phase) (Any (From d n c.args.e)) (By d n c.args.rules.phase c.args.e) (on c.args.trail.now) (on c.add-false-steps.new.trail) c.add-false-steps.result
-      (by_until d n c.args.rules.phase c.args.e fated) (c.add-false-steps.ensures.hands d shows there fated lt fine);
+      hands_like (calculus d c.args.rules.phase) (Any (From d n c.args.e)) (By d n c.args.rules.phase c.args.e) (on c.args.trail.now) (on c.add_false_steps.new.trail) c.add_false_steps.result
+      (by_until d n c.args.rules.phase c.args.e fated) (c.add_false_steps.ensures.hands d shows there fated lt fine);
 }

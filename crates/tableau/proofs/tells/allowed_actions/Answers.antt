@@ -7,7 +7,7 @@ use Rattle.tableau.specs.Claims.{member}
 use Rattle.tableau.specs.Graphs.{Sign, Sign.T, form}
 use Rattle.tableau.specs.Numbers.{ClaimOf}
 use Rattle.tableau.proofs.tells.allowed_actions.Goals as goal
-use Rattle.tableau.proofs.tells.allowed_actions.Goals.{in-Next+then-contains, in-Next+else-contains, in-default}
+use Rattle.tableau.proofs.tells.allowed_actions.Goals.{in-Next+then-contains, in-Next+else-contains, in_default}
 use Rattle.tableau.proofs.Numbering.{form_told, plain_next}
 use Rattle.tableau.proofs.Telling.{allow_same, allow_one, all_ones}
 
@@ -29,8 +29,8 @@ loop-e-preserved c = λ d s a l.
           allow_one d N e a c.loop-e.allowed c.match-form.allowed w.in-Next.b w.in-Next.-f w.allowed-is w.in-Next.ensures.earlier.0 is (own, ap N (sym (w.number.ensures d s own)) ∙ sym w.contains.ensures ∙ w.if-contains.true) now
       | in-Next+else-contains w ↦
           allow_same d N e a c.loop-e.allowed c.match-form.allowed w.allowed-is now (λ b f k q. both_ways w.contains.result w.if-contains.false (w.contains.ensures ∙ ap N (w.number.ensures d s k.0) ∙ k.1))
-      | in-default w ↦
-          allow_same d N e a c.loop-e.allowed c.match-form.allowed w.allowed-is now (λ b f k q. w.in-default.not-Next b f (t.1 ∙ q))
+      | in_default w ↦
+          allow_same d N e a c.loop-e.allowed c.match-form.allowed w.allowed-is now (λ b f k q. w.in_default.not-Next b f (t.1 ∙ q))
     ]
 
 pub returns : goal.returns

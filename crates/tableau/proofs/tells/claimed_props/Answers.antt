@@ -7,7 +7,7 @@ use Rattle.tableau.specs.Claims.{member}
 use Rattle.tableau.specs.Graphs.{Sign, Sign.T, Sign.F, form}
 use Rattle.tableau.specs.Numbers.{number_of, ClaimOf}
 use Rattle.tableau.proofs.tells.claimed_props.Goals as goal
-use Rattle.tableau.proofs.tells.claimed_props.Goals.{in-Prop+then-contains, in-Prop+else-contains, in-default}
+use Rattle.tableau.proofs.tells.claimed_props.Goals.{in-Prop+then-contains, in-Prop+else-contains, in_default}
 use Rattle.tableau.proofs.Numbering.{form_told, plain_prop}
 use Rattle.tableau.proofs.Telling.{tell_same, tell_one}
 use Rattle.program.proofs.Bits.{bit_none}
@@ -33,8 +33,8 @@ loop-e-preserved c = λ d s p.
       | in-Prop+else-contains w ↦
           tell_same d N sign e p c.loop-e.props c.match-form.props w.props-is now
           (λ k q. let n = w.number.ensures d s (subst (ClaimOf d) (sym w.signed.ensures) k.0) ∙ ap (number_of d) w.signed.ensures in both_ways w.contains.result w.if-contains.false (w.contains.ensures ∙ ap N n ∙ k.1))
-      | in-default w ↦
-          tell_same d N sign e p c.loop-e.props c.match-form.props w.props-is now (λ k q. w.in-default.not-Prop p (t.1 ∙ q))
+      | in_default w ↦
+          tell_same d N sign e p c.loop-e.props c.match-form.props w.props-is now (λ k q. w.in_default.not-Prop p (t.1 ∙ q))
     ]
 
 pub returns : goal.returns

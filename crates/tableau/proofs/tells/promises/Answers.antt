@@ -7,7 +7,7 @@ use Rattle.tableau.specs.Graphs.{until_true}
 use Rattle.tableau.specs.Numbers.{is_until}
 use Rattle.tableau.specs.Successions.{Claims}
 use Rattle.tableau.proofs.tells.promises.Goals as goal
-use Rattle.tableau.proofs.tells.promises.Goals.{in-Until+else-promises-in, in-default}
+use Rattle.tableau.proofs.tells.promises.Goals.{in-Until+else-promises_in, in_default}
 use Rattle.tableau.proofs.Numbering.{form_told, fated_until}
 
 pub loop-e-preserved : goal.loop-e-preserved
@@ -19,8 +19,8 @@ loop-e-preserved c = λ d s b.
     let t = form_told held d s e c.count-e-end.result c.form.result end c.loop-e-test.true c.form.ensures.is in
     below_more (λ h. (q : ℕ) → Claims d N (until_true h q c.args.label) → ⊥) e (c.loop-e.invariant d s b)
     (λ q k. elim c.match-form.branch [
-      | in-Until+else-promises-in w ↦ both_ways w.promises-in.result w.if-promises-in.false ((w.promises-in.ensures d s t.0 k.0.0.fated b).1 (q, k))
-      | in-default w ↦ let u = fated_until (form_at d e) k.0.0.fated in w.in-default.not-Until u.0 u.1 u.2 (t.1 ∙ u.3)
+      | in-Until+else-promises_in w ↦ both_ways w.promises_in.result w.if-promises_in.false ((w.promises_in.ensures d s t.0 k.0.0.fated b).1 (q, k))
+      | in_default w ↦ let u = fated_until (form_at d e) k.0.0.fated in w.in_default.not-Until u.0 u.1 u.2 (t.1 ∙ u.3)
     ])
 
 pub returns : goal.returns

@@ -13,5 +13,5 @@ loop-q-preserved c = λ d s.
 
 pub returns : goal.returns
 returns c = λ d s l u b.
-    let is = c.states-of-q-end.ensures.is d s l u in
+    let is = c.states_of-q-end.ensures.is d s l u in
     (λ h. absurd (both_ways false refl h), λ k. absurd (let low = k.1.0.0.known in c.loop-q.invariant d s k.0 (omega arith) k.1))

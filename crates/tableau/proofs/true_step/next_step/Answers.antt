@@ -4,7 +4,7 @@ use Rattle.tableau.specs.Claims.{member}
 use Rattle.tableau.specs.Graphs.{step_true}
 use Rattle.tableau.specs.Numbers.{number_of}
 use Rattle.tableau.proofs.true_step.next_step.Goals as goal
-use Rattle.tableau.proofs.true_step.next_step.Goals.{then-contains+in-default, else-contains}
+use Rattle.tableau.proofs.true_step.next_step.Goals.{then-contains+in_default, else-contains}
 use Rattle.tableau.proofs.Numbering.{number_within}
 
 pub loop-c-preserved : goal.loop-c-preserved
@@ -12,7 +12,7 @@ loop-c-preserved c = λ d s e q l k low high.
     let n = number_of d (step_true e q l) in
     elim (cases_order n c.loop-c.c) [
       | inl is ↦ elim c.if-contains.branch [
-        | then-contains+in-default w ↦ w.in-default.ensures.step d s e q l k.0 is
+        | then-contains+in_default w ↦ w.in_default.ensures.step d s e q l k.0 is
         | else-contains w ↦ both_ways c.contains.result w.if-contains.false (c.contains.ensures ∙ ap (member c.args.node.now.claims.words) (sym is) ∙ k.1)
       ]
       | inr (inl h) ↦ c.loop-c.invariant d s e q l k low h

@@ -14,10 +14,10 @@ meant_step (FalseUntil h r) e q l is = absurd (let z : ◌≡◌ {A = ℕ} 0 1 =
 meant_step (TrueStep h r i) e q l is = cc
 meant_step (FalseStep h r) e q l is = absurd (let z : ◌≡◌ {A = ℕ} 0 1 = cc in omega arith)
 
-pub returns-in-default : goal.returns-in-default
-returns-in-default c = record {
+pub returns-in_default : goal.returns-in_default
+returns-in_default c = record {
   number = tt;
   step = λ d s e q l own is.
-      let k = c.in-ok-claim.ensures d s in
-      c.in-default.not-TrueStep e q l (meant_step c.in-ok-claim.claim e q l (one_number d (meant c.in-ok-claim.claim) (step_true e q l) k.0 own (k.1 ∙ sym is)));
+      let k = c.in_ok-claim.ensures d s in
+      c.in_default.not-TrueStep e q l (meant_step c.in_ok-claim.claim e q l (one_number d (meant c.in_ok-claim.claim) (step_true e q l) k.0 own (k.1 ∙ sym is)));
 }

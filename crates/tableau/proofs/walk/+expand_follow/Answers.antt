@@ -14,10 +14,10 @@ pub expand-returns-then-at-trail : goal.expand-returns-then-at-trail
 expand-returns-then-at-trail t c = record {
   len = refl;
   kept = refl;
-  room = c.enter-set.ensures.room;
+  room = c.enter_set.ensures.room;
   entered = λ d ready fine.
-      walk_end d c.args.opening.rules.phase c.args.opening.origin (calculus d c.args.opening.rules.phase) c.args.at (on c.args.trail.now) c.args.set.words c.args.nodes.now c.enter-set.new.nodes c.args.edges.now c.enter-set.new.edges c.args.used c.enter-set.result
-      (omega (arith, c.requires.stands.long, c.if-at-trail.true)) fine c.requires.stands.same (c.enter-set.ensures.entered d ready);
+      walk_end d c.args.opening.rules.phase c.args.opening.origin (calculus d c.args.opening.rules.phase) c.args.at (on c.args.trail.now) c.args.set.words c.args.nodes.now c.enter_set.new.nodes c.args.edges.now c.enter_set.new.edges c.args.used c.enter_set.result
+      (omega (arith, c.requires.stands.long, c.if-at-trail.true)) fine c.requires.stands.same (c.enter_set.ensures.entered d ready);
 }
 
 pub expand-returns-in-Nothing : goal.expand-returns-in-Nothing
@@ -40,9 +40,9 @@ expand-returns-in-One t c = record {
       (omega (arith, c.requires.stands.long, c.if-at-trail.false)) (get_or-take c.args.trail.now.len c.args.trail.now.claims c.args.at 0 c.if-at-trail.false) (c.in-One.ensures.offers d ready.shows) (c.follow.ensures.entered d ready fine);
 }
 
-pub expand-returns-in-err-more : goal.expand-returns-in-err-more
-expand-returns-in-err-more t c =
-    let f = c.in-err-more.ensures in
+pub expand-returns-in_err-more : goal.expand-returns-in_err-more
+expand-returns-in_err-more t c =
+    let f = c.in_err-more.ensures in
     record {
       len = f.len;
       kept = f.kept;
@@ -50,14 +50,14 @@ expand-returns-in-err-more t c =
       entered = λ d ready fine.
           let x = c.args.opening.rules.phase in
           let m = calculus d x in
-          subst (Enters d x c.args.opening.origin (Reached m c.args.at (on c.args.trail.now)) (Leads m c.args.at (on c.args.trail.now)) c.args.nodes.now c.args.edges.now c.args.used c.follow-in-Two.new.nodes c.follow-in-Two.new.edges) (sym c.from-residual.ensures)
+          subst (Enters d x c.args.opening.origin (Reached m c.args.at (on c.args.trail.now)) (Leads m c.args.at (on c.args.trail.now)) c.args.nodes.now c.args.edges.now c.args.used c.follow-in-Two.new.nodes c.follow-in-Two.new.edges) (sym c.from_residual.ensures)
           (walk_over d x c.args.opening.origin m c.args.at (get_or c.args.trail.now.claims c.args.at 0) (on c.args.trail.now) (listed c.in-Two.first) c.args.nodes.now c.follow-in-Two.new.nodes c.args.edges.now c.follow-in-Two.new.edges c.args.used
           (omega (arith, c.requires.stands.long, c.if-at-trail.false)) (get_or-take c.args.trail.now.len c.args.trail.now.claims c.args.at 0 c.if-at-trail.false) (c.in-Two.ensures.offers d ready.shows).0 (f.entered d ready fine));
     }
 
-pub expand-returns-in-ok-more : goal.expand-returns-in-ok-more
-expand-returns-in-ok-more t c =
-    let f = c.in-ok-more.ensures in
+pub expand-returns-in_ok-more : goal.expand-returns-in_ok-more
+expand-returns-in_ok-more t c =
+    let f = c.in_ok-more.ensures in
     let h = c.follow-in-Two-2.ensures in
     record {
       len = h.len ∙ f.len;
@@ -68,18 +68,18 @@ expand-returns-in-ok-more t c =
           let o = c.args.opening.origin in
           let m = calculus d x in
           let first = f.entered d ready fine in
-          let second = h.entered d (ready_after c.args.opening.rules.declared.now d x o c.args.used c.in-ok-more.more first.goes.more_edges ready) (subst (λ l. Fine m (has l)) (sym f.kept) fine) in
-          walk_both d x o m c.args.at (get_or c.args.trail.now.claims c.args.at 0) (on c.args.trail.now) (listed c.in-Two.first) (listed c.in-Two.second) c.args.nodes.now c.follow-in-Two.new.nodes c.follow-in-Two-2.new.nodes c.args.edges.now c.follow-in-Two.new.edges c.follow-in-Two-2.new.edges c.args.used c.in-ok-more.more c.follow-in-Two-2.result
+          let second = h.entered d (ready_after c.args.opening.rules.declared.now d x o c.args.used c.in_ok-more.more first.goes.more_edges ready) (subst (λ l. Fine m (has l)) (sym f.kept) fine) in
+          walk_both d x o m c.args.at (get_or c.args.trail.now.claims c.args.at 0) (on c.args.trail.now) (listed c.in-Two.first) (listed c.in-Two.second) c.args.nodes.now c.follow-in-Two.new.nodes c.follow-in-Two-2.new.nodes c.args.edges.now c.follow-in-Two.new.edges c.follow-in-Two-2.new.edges c.args.used c.in_ok-more.more c.follow-in-Two-2.result
           (omega (arith, c.requires.stands.long, c.if-at-trail.false)) (get_or-take c.args.trail.now.len c.args.trail.now.claims c.args.at 0 c.if-at-trail.false) (c.in-Two.ensures.offers d ready.shows).0 (c.in-Two.ensures.offers d ready.shows).1 first
-          (subst (λ l. Enters d x o (Reached m (c.args.at + 1) (grown l (listed c.in-Two.second))) (Leads m (c.args.at + 1) (grown l (listed c.in-Two.second))) c.follow-in-Two.new.nodes c.follow-in-Two.new.edges c.in-ok-more.more c.follow-in-Two-2.new.nodes c.follow-in-Two-2.new.edges c.follow-in-Two-2.result) f.kept second);
+          (subst (λ l. Enters d x o (Reached m (c.args.at + 1) (grown l (listed c.in-Two.second))) (Leads m (c.args.at + 1) (grown l (listed c.in-Two.second))) c.follow-in-Two.new.nodes c.follow-in-Two.new.edges c.in_ok-more.more c.follow-in-Two-2.new.nodes c.follow-in-Two-2.new.edges c.follow-in-Two-2.result) f.kept second);
     }
 
-pub follow-returns-in-default : goal.follow-returns-in-default
-follow-returns-in-default t c = record {
+pub follow-returns-in_default : goal.follow-returns-in_default
+follow-returns-in_default t c = record {
   len = c.drop-guard.ensures.len;
-  kept = back_none c.args.trail.now c.add.new.trail c.drop-guard.new.self.0 c.drop-guard.ensures.len c.drop-guard.ensures.claims c.in-default.ensures.kept;
+  kept = back_none c.args.trail.now c.add.new.trail c.drop-guard.new.self.0 c.drop-guard.ensures.len c.drop-guard.ensures.claims c.in_default.ensures.kept;
   room = search rules;
-  entered = λ d ready fine. walk_stuck d c.args.opening.rules.phase c.args.opening.origin (calculus d c.args.opening.rules.phase) (c.args.at + 1) (grown (on c.args.trail.now) (listed c.args.few.now)) c.args.nodes.now c.args.edges.now c.args.used (c.in-default.ensures.fine d ready.shows fine);
+  entered = λ d ready fine. walk_stuck d c.args.opening.rules.phase c.args.opening.origin (calculus d c.args.opening.rules.phase) (c.args.at + 1) (grown (on c.args.trail.now) (listed c.args.few.now)) c.args.nodes.now c.args.edges.now c.args.used (c.in_default.ensures.fine d ready.shows fine);
 }
 
 pub follow-returns : goal.follow-returns

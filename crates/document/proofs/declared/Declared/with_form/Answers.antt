@@ -5,12 +5,12 @@ use Rattle.document.specs.declared.form.Form.TheVariants.{True}
 use Rattle.document.proofs.Operands.{so_earlier}
 use Rattle.document.proofs.declared.Declared.with_form.Goals as goal
 
-pub invariant-of-next : goal.invariant-of-next
-invariant-of-next c =
+pub invariant_of-next : goal.invariant_of-next
+invariant_of-next c =
     let s = c.args.self in
     let at = c.count-e.result in
     let form = c.args.form in
-    let w = c.weight-of.result in
+    let w = c.weight_of.result in
     let is : at ≡ s.forms.count = c.count-e.ensures.is in
     let more : c.with-forms.result.count ≡ at + 1 = omega arith in
     let room : at < length s.lines = omega arith in

@@ -21,8 +21,8 @@ made c =
       starts = how;
     }
 
-pub invariant-of-result : goal.invariant-of-result
-invariant-of-result c = let m = made (goal.at.invariant-of-result c).Joined-row in (omega arith, (ends_low m, (steps_low m, tt)))
+pub invariant_of-result : goal.invariant_of-result
+invariant_of-result c = let m = made (goal.at.invariant_of-result c).Joined-row in record { few = omega arith; ends = ends_low m; steps = steps_low m }
 
 pub returns : goal.returns
 returns c =

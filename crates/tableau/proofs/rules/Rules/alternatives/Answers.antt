@@ -4,8 +4,8 @@ use Rattle.tableau.proofs.Offering.{offered_offers}
 
 pub returns-in-Some : goal.returns-in-Some
 returns-in-Some c = record {
-  small = c.of-claim.ensures.small;
+  small = c.of_claim.ensures.small;
   offers = λ d s.
       let k = c.in-Some.ensures d s in
-      offered_offers d c.args.self.phase c.args.c (meant c.in-Some.claim) c.of-claim.result k.0 k.1 (c.of-claim.ensures.offers d s k.0);
+      offered_offers d c.args.self.phase c.args.c (meant c.in-Some.claim) c.of_claim.result k.0 k.1 (c.of_claim.ensures.offers d s k.0);
 }

@@ -8,7 +8,7 @@ use Rattle.tableau.specs.Graphs.{Sign, Sign.T, Sign.F, Claim, form}
 use Rattle.tableau.specs.Numbers.{number_of, ClaimOf}
 use Rattle.tableau.specs.Successions.{Claims}
 use Rattle.tableau.proofs.rules.Rules.claims_prop.Goals as goal
-use Rattle.tableau.proofs.rules.Rules.claims_prop.Goals.{in-Prop+else-other-p, else-other-p-via-then-other-p+else-contains, else-other-p-via-else-other-p, in-default}
+use Rattle.tableau.proofs.rules.Rules.claims_prop.Goals.{in-Prop+else-other-p, else-other-p-via-then-other-p+else-contains, else-other-p-via-else-other-p, in_default}
 use Rattle.tableau.proofs.Numbering.{form_told}
 use Rattle.tableau.proofs.Clashing.{same_prop}
 
@@ -27,7 +27,7 @@ loop-e-preserved c = λ d s.
             both_ways v.contains.result v.if-contains.false (v.contains.ensures ∙ ap N n ∙ k.1)
         | else-other-p-via-else-other-p v ↦ v.if-other-p.false (same_prop (form_at d e) w.in-Prop.other c.args.p (sym t.1 ∙ w.in-Prop.is) q)
       ]
-      | in-default w ↦ w.in-default.not-Prop c.args.p (t.1 ∙ q)
+      | in_default w ↦ w.in_default.not-Prop c.args.p (t.1 ∙ q)
     ])
 
 pub returns : goal.returns

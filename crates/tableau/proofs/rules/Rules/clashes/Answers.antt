@@ -8,4 +8,4 @@ pub returns-in-Some : goal.returns-in-Some
 returns-in-Some c = λ d s.
     let k = c.in-Some.ensures d s in
     let n = clash_number d c.args.self.phase c.args.c (member c.args.set.words) (meant c.in-Some.claim) k.0 k.1 in
-    Decides-like c.clashes-claim.result n.0 n.1 (c.clashes-claim.ensures d s k.0)
+    Decides-like c.clashes_claim.result n.0 n.1 (c.clashes_claim.ensures d s k.0)

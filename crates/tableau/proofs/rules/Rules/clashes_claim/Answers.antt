@@ -16,8 +16,8 @@ returns-in-TrueUntil c = λ d s.
 pub returns-in-FalseUntil : goal.returns-in-FalseUntil
 returns-in-FalseUntil c = λ d s.
     let N = member c.args.set.words in
-    subst (λ (k : Claim). ClaimOf d (meant k) → Decides c.has-either.result (ClashesWith d N (meant k))) (sym c.in-FalseUntil.is)
-    (λ k. not_until_clash d N c.in-FalseUntil.e c.in-FalseUntil.q c.has-either.result k (c.has-either.ensures d s (k, omega arith) (k, omega arith)))
+    subst (λ (k : Claim). ClaimOf d (meant k) → Decides c.has_either.result (ClashesWith d N (meant k))) (sym c.in-FalseUntil.is)
+    (λ k. not_until_clash d N c.in-FalseUntil.e c.in-FalseUntil.q c.has_either.result k (c.has_either.ensures d s (k, omega arith) (k, omega arith)))
 
 pub returns-in-TrueStep : goal.returns-in-TrueStep
 returns-in-TrueStep c = λ d s.
@@ -28,5 +28,5 @@ returns-in-TrueStep c = λ d s.
 pub returns-in-FalseStep : goal.returns-in-FalseStep
 returns-in-FalseStep c = λ d s.
     let N = member c.args.set.words in
-    subst (λ (k : Claim). ClaimOf d (meant k) → Decides c.has-either-in-FalseStep.result (ClashesWith d N (meant k))) (sym c.in-FalseStep.is)
-    (λ k. not_step_clash d N c.in-FalseStep.e c.in-FalseStep.q c.has-either-in-FalseStep.result k (c.has-either-in-FalseStep.ensures d s (k, omega arith) (k, omega arith)))
+    subst (λ (k : Claim). ClaimOf d (meant k) → Decides c.has_either-in-FalseStep.result (ClashesWith d N (meant k))) (sym c.in-FalseStep.is)
+    (λ k. not_step_clash d N c.in-FalseStep.e c.in-FalseStep.q c.has_either-in-FalseStep.result k (c.has_either-in-FalseStep.ensures d s (k, omega arith) (k, omega arith)))

@@ -31,13 +31,13 @@ returns-in-Prop c = λ d s own.
     let e = c.args.e in
     let n = c.number.ensures d s (subst (ClaimOf d) (sym c.signed.ensures) own) ∙ ap (number_of d) c.signed.ensures in
     let none : N (number_of d (form (cond (not c.args.sign) T F) e)) ≡ false = ap N (sym n) ∙ sym c.contains.ensures ∙ c.if-contains.false in
-    prop_clash d N e c.in-Prop.p c.args.sign c.claims-prop.result own (sym (form_there c.args.self.declared.now d s e (Prop c.in-Prop.p) own.0 c.in-Prop.ensures.is)) none (c.claims-prop.ensures d s)
+    prop_clash d N e c.in-Prop.p c.args.sign c.claims_prop.result own (sym (form_there c.args.self.declared.now d s e (Prop c.in-Prop.p) own.0 c.in-Prop.ensures.is)) none (c.claims_prop.ensures d s)
 
-pub returns-in-default : goal.returns-in-default
-returns-in-default c = λ d s own.
+pub returns-in_default : goal.returns-in_default
+returns-in_default c = λ d s own.
     let N = member c.args.set.words in
     let e = c.args.e in
     let n = c.number.ensures d s (subst (ClaimOf d) (sym c.signed.ensures) own) ∙ ap (number_of d) c.signed.ensures in
     let none : N (number_of d (form (cond (not c.args.sign) T F) e)) ≡ false = ap N (sym n) ∙ sym c.contains.ensures ∙ c.if-contains.false in
     let is = form_there c.args.self.declared.now d s e c.form.result own.0 c.form.ensures.is in
-    (λ h. absurd (both_ways false refl h), λ k. absurd (other_clash d N e c.args.sign (λ t. c.in-default.not-True (is ∙ t)) (λ p t. c.in-default.not-Prop p (is ∙ t)) none k))
+    (λ h. absurd (both_ways false refl h), λ k. absurd (other_clash d N e c.args.sign (λ t. c.in_default.not-True (is ∙ t)) (λ p t. c.in_default.not-Prop p (is ∙ t)) none k))

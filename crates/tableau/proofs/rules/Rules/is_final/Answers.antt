@@ -10,6 +10,6 @@ returns c = λ d s l q.
     let row = subst (λ (r : Row). RowOf (program_at d c.args.p) r) (sym c.row.ensures) (s.rows c.args.p l) in
     let ends = (c.new.ensures.made (program_at d c.args.p) row).ends c.args.q in
     let bit = c.new.result.finals / 2 ^ c.args.q % 2 in (
-      λ h. ends.0 (eqb-true bit 1 (and_parts (ltb c.args.q 16) (eqb bit 1) (sym c.is-final.ensures ∙ h)).1),
-      λ f. c.is-final.ensures ∙ and_from (ltb c.args.q 16) (eqb bit 1) (lt-ltb c.args.q 16 q) (eq-eqb bit 1 (ends.1 f)),
+      λ h. ends.0 (eqb-true bit 1 (and_parts (ltb c.args.q 16) (eqb bit 1) (sym c.is_final.ensures ∙ h)).1),
+      λ f. c.is_final.ensures ∙ and_from (ltb c.args.q 16) (eqb bit 1) (lt-ltb c.args.q 16 q) (eq-eqb bit 1 (ends.1 f)),
     )

@@ -18,7 +18,7 @@ returns-in-And c = record {
       let is = form_there c.args.self.declared.now d s c.args.e (And f g) l c.in-And.ensures.is in
       let r = refers_there d c.args.e (And f g) s.good l is in
       subst (λ (form : Form). Offered d (λ b. GivesForm d x b F form) c.either.result) is
-      (offered_either d (λ b. GivesForm d x b F (And f g)) c.either.result c.false-form.result c.false-form-in-And.result (says d x F f) (says d x F g) c.either.ensures.is
-      (c.false-form.ensures d s (omega arith)) (c.false-form-in-And.ensures d s (omega arith))
+      (offered_either d (λ b. GivesForm d x b F (And f g)) c.either.result c.false_form.result c.false_form-in-And.result (says d x F f) (says d x F g) c.either.ensures.is
+      (c.false_form.ensures d s (omega arith)) (c.false_form-in-And.ensures d s (omega arith))
       refl (λ k h. h) refl (λ k h. h));
 }

@@ -18,7 +18,7 @@ returns-in-Or c = record {
       let is = form_there c.args.self.declared.now d s c.args.e (Or f g) l c.in-Or.ensures.is in
       let r = refers_there d c.args.e (Or f g) s.good l is in
       subst (λ (form : Form). Offered d (λ b. GivesForm d x b T form) c.either.result) is
-      (offered_either d (λ b. GivesForm d x b T (Or f g)) c.either.result c.true-form-in-Or.result c.true-form-in-Or-2.result (says d x T f) (says d x T g) c.either.ensures.is
-      (c.true-form-in-Or.ensures d s (omega arith)) (c.true-form-in-Or-2.ensures d s (omega arith))
+      (offered_either d (λ b. GivesForm d x b T (Or f g)) c.either.result c.true_form-in-Or.result c.true_form-in-Or-2.result (says d x T f) (says d x T g) c.either.ensures.is
+      (c.true_form-in-Or.ensures d s (omega arith)) (c.true_form-in-Or-2.ensures d s (omega arith))
       refl (λ k h. h) refl (λ k h. h));
 }
