@@ -1,5 +1,5 @@
 -- What comes of lines that declare something.
-use Rattle.std.proofs.Common.{◌≡◌, ℕ, ◌+◌, ◌<◌, ◌≤◌, ◌⊎◌, List, [], ◌∷◌, ◌++◌, length, get_or, take, set, codes, sym, refl, ap, ◌∙◌, subst, ⊎_elim, arith}
+use Rattle.std.proofs.Common.{◌≡◌, ℕ, ◌+◌, ◌<◌, ◌≤◌, List, [], ◌∷◌, ◌++◌, length, get_or, take, set, codes, sym, refl, ap, ◌∙◌, subst, ⊎_elim, arith}
 use Rattle.program.specs.Automata.{names}
 use Rattle.program.specs.Faults.{MalformedBy}
 use Rattle.program.specs.Names.{Named, Missing, Number}

@@ -1,5 +1,5 @@
 -- The operands of a form are bounded, as a test and as facts.
-use Rattle.std.proofs.Common.{◌≡◌, ℕ, ◌<◌, ◌≤◌, true, ◌&&◌, ltb, refl, arith}
+use Rattle.std.proofs.Common.{◌≡◌, ℕ, true, ◌&&◌, ltb, refl}
 use Rattle.std.proofs.lemmas.Bool.{ltb-true, lt-ltb, and_parts, and_from}
 use Rattle.document.specs.Forms.{Earlier, earlier}
 use Rattle.document.specs.declared.form.Form.{Form}

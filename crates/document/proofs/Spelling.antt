@@ -5,7 +5,6 @@ use Rattle.document.specs.Documents.{Document, WellFormed}
 use Rattle.document.specs.Lines.{Declarations, nothing, document_of, Line, goal_line, ReadsAs, Fine, Adds}
 use Rattle.document.specs.Outcomes.{Outcome, taken, Comes, declares, aims, Loads, read}
 use Rattle.document.specs.Spelled.{ReadLines, Declare, SpellsDocument, AcceptedExactly, OneDocument}
-use Rattle.document.specs.Texts.{pieces}
 use Rattle.document.proofs.Documented.{refers_so}
 use Rattle.document.proofs.Growing.{Sound, sound_nothing, sound_adds, Limits, limits_nothing, limits_adds, back}
 use Rattle.document.proofs.OneOutcome.{no_two}
@@ -103,7 +102,7 @@ comes (x ∷ xs) d e (b ∷ bs) aim goal s h active i r t =
 taken_as : (text : List ℕ) (d : Document) → SpellsDocument text d → (e : Declarations) × (goal : ℕ) × Loads text (taken e goal) × (d ≡ document_of e goal)
 taken_as text d t =
     let e = t.declared in
-    let w : WellFormed (document_of e d.goal) = subst WellFormed t.is t.well-formed in
+    let w : WellFormed (document_of e d.goal) = subst WellFormed t.is t.well_formed in
     let h : Limits e = record { few_acts = w.few_acts; few_props = w.few_props; few_progs = w.few_progs; few_forms = w.few_forms; short = w.short_progs; light = w.light } in
     let c = comes t.lines nothing e t.bytes t.aim d.goal sound_nothing h w.active t.aims t.reads t.declares in
     (e, d.goal, read t.short (subst (λ v. Comes nothing 1 v (taken e d.goal)) (sym t.ended) (c.1 1)), t.is)

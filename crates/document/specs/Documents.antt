@@ -1,5 +1,5 @@
 -- What a document means: how many actions and propositions it declares, its programs, its forms and its goal, by number.
-use Rattle.std.specs.Prelude.{◌≡◌, ℕ, zero, suc, ◌+◌, ◌*◌, ◌<◌, ◌≤◌, Bool, true, false, cond, List, [], ◌∷◌, ◌++◌, length, slice_index_or}
+use Rattle.std.specs.Prelude.{ℕ, suc, ◌+◌, ◌*◌, ◌<◌, ◌≤◌, List, [], ◌∷◌, ◌++◌, length, slice_index_or}
 use Rattle.program.specs.Words.{Program, act}
 use Rattle.program.specs.Automata.{names}
 use Rattle.document.specs.Formulas.{Formula}

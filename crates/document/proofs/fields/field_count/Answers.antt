@@ -10,8 +10,8 @@ loop-b-preserved c =
     let line = c.args.line.now in
     let i = c.loop-b.b-index in
     elim c.if-b-eq9.branch [
-      | then-b-eq9 w ↦ let m = pieces_more 9 line i c.loop-b-test.true w.if-b-eq9.true in omega (arith, w.count_is, c.loop-b.invariant)
-      | else-b-eq9 w ↦ let m = pieces_same 9 line i c.loop-b-test.true w.if-b-eq9.false in omega (arith, w.count_is, c.loop-b.invariant)
+      | then-b-eq9 w ↦ let m = pieces_more 9 line i c.loop-b-test.true w.if-b-eq9.true in omega (arith, w.count-is, c.loop-b.invariant)
+      | else-b-eq9 w ↦ let m = pieces_same 9 line i c.loop-b-test.true w.if-b-eq9.false in omega (arith, w.count-is, c.loop-b.invariant)
     ]
 
 pub returns : goal.returns

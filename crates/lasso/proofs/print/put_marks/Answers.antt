@@ -17,11 +17,11 @@ loop-p-preserved c =
       | then-bit w ↦
           let is = mark_put names c.loop-p.p c.args.marks h c.loop-p.first _ (sym c.bit.ensures ∙ w.if-bit.true) (w.at.ensures (omega arith)) c.loop-p.invariant.2 was
           (record { next = w.put_mark-next.ensures.next; text = w.put_mark-next.ensures.text }) in
-          (w.next-is ∙ is.0.next, omega (arith, w.next-is, w.put_mark-next.ensures.few), w.first_is ∙ is.1, w.text-is ∙ is.0.text)
+          (w.next-is ∙ is.0.next, omega (arith, w.next-is, w.put_mark-next.ensures.few), w.first-is ∙ is.1, w.text-is ∙ is.0.text)
       | else-bit w ↦
           let e = mark_left names c.loop-p.p c.args.marks h (sym c.bit.ensures ∙ w.if-bit.false) in
           let is = wrote_as _ was (ap so_far e) in
-          (w.next-is ∙ is.next, omega (arith, w.next-is), w.first_is ∙ c.loop-p.invariant.2 ∙ ap none e, w.text-is ∙ is.text)
+          (w.next-is ∙ is.next, omega (arith, w.next-is), w.first-is ∙ c.loop-p.invariant.2 ∙ ap none e, w.text-is ∙ is.text)
     ]
 
 pub returns-then-first : goal.returns-then-first

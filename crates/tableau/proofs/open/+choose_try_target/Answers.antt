@@ -58,7 +58,7 @@ choose-loop-target-preserved t c = elim c.if-reached-target-eq1.branch [
         let goes = (c.targets-reached.ensures d ready.shows next.0.0.0 lt r).0 (sym (bit_read c.targets-reached.result r) ∙ w.if-reached-target-eq1.true) in
         let tries = subst (λ l. Tries c.args.opening.rules.declared.now x o n s.number s.form r s.label l c.loop-target.nodes c.loop-target.edges c.loop-target.count w.try_target.new.nodes w.try_target.new.edges (Some w.in_ok-count.count)) c.loop-target.invariant.4 w.in_ok-count.ensures.entered in
         let e = tries d (ready_after c.args.opening.rules.declared.now d x o c.args.used c.loop-target.count c.loop-target.invariant.2 ready) lt (target_state d s.form s.state n.action r next.0.0.0 goes, next.0.0.1) fine in
-        entered_is c.if-reached-target-eq1.nodes c.if-reached-target-eq1.edges c.if-reached-target-eq1.count w.nodes-is w.edges-is w.count_is
+        entered_is c.if-reached-target-eq1.nodes c.if-reached-target-eq1.edges c.if-reached-target-eq1.count w.nodes-is w.edges-is w.count-is
         (choose_turn n c.args.from s.form s.state s.label s.number (on c.args.trail.now) r step goes (c.loop-target.invariant.5 d ready lt fine) e),
   )
   | choose-else-reached-target-eq1 w ↦ (
@@ -73,7 +73,7 @@ choose-loop-target-preserved t c = elim c.if-reached-target-eq1.branch [
         let s = c.in-Some.step in
         let r = c.loop-target.target in
         let next = c.in-Some.ensures.next d ready.shows in
-        entered_is c.if-reached-target-eq1.nodes c.if-reached-target-eq1.edges c.if-reached-target-eq1.count w.nodes-is w.edges-is w.count_is
+        entered_is c.if-reached-target-eq1.nodes c.if-reached-target-eq1.edges c.if-reached-target-eq1.count w.nodes-is w.edges-is w.count-is
         (family_skip (Branch d x n s.form s.state s.label s.number (on c.args.trail.now)) r (λ N h. w.if-reached-target-eq1.false (bit_read c.targets-reached.result r ∙ (c.targets-reached.ensures d ready.shows next.0.0.0 lt r).1 h.0)) (c.loop-target.invariant.5 d ready lt fine)),
   )
 ]

@@ -20,7 +20,7 @@ loop-a-preserved c = elim c.if-allowed-a-eq1.branch [
         let acts : c.count-a-end.result ≡ d.acts = c.count-a-end.ensures.is ∙ ap (λ v. v.count) c.acts.ensures.is ∙ ready.shows.acts in
         let new = new_node d x o c.args.set c.loop-a.a c.allowed_actions-allowed.result c.claimed_props-shows.result c.claimed_props-hides.result c.closes-closing.result (omega (arith, acts, c.loop-a-test.true)) ready.shows.good.few_acts (c.allowed_actions-allowed.ensures d ready.shows) w.if-allowed-a-eq1.true (c.closes-closing.ensures d ready.shows ready.phase) (c.claimed_props-shows.ensures d ready.shows) (c.claimed_props-hides.ensures d ready.shows) in
         let e = w.in_ok-count.ensures.entered d x (begun_after o c.args.used c.loop-a.count c.loop-a.invariant.2 ready.begun) new in
-        acted_is c.if-allowed-a-eq1.nodes c.if-allowed-a-eq1.edges c.if-allowed-a-eq1.count w.nodes-is w.edges-is w.count_is (acted_more (c.loop-a.invariant.3 d ready) e.0 e.1),
+        acted_is c.if-allowed-a-eq1.nodes c.if-allowed-a-eq1.edges c.if-allowed-a-eq1.count w.nodes-is w.edges-is w.count-is (acted_more (c.loop-a.invariant.3 d ready) e.0 e.1),
   )
   | else-allowed-a-eq1 w ↦ (
     search rules,
@@ -28,7 +28,7 @@ loop-a-preserved c = elim c.if-allowed-a-eq1.branch [
     search rules,
     λ d ready.
         let acts : c.count-a-end.result ≡ d.acts = c.count-a-end.ensures.is ∙ ap (λ v. v.count) c.acts.ensures.is ∙ ready.shows.acts in
-        acted_is c.if-allowed-a-eq1.nodes c.if-allowed-a-eq1.edges c.if-allowed-a-eq1.count w.nodes-is w.edges-is w.count_is
+        acted_is c.if-allowed-a-eq1.nodes c.if-allowed-a-eq1.edges c.if-allowed-a-eq1.count w.nodes-is w.edges-is w.count-is
         (acted_skip (λ h. w.if-allowed-a-eq1.false (bit_read c.allowed_actions-allowed.result c.loop-a.a ∙ (c.allowed_actions-allowed.ensures d ready.shows c.loop-a.a (omega (arith, acts, c.loop-a-test.true, ready.shows.good.few_acts))).1 h)) (c.loop-a.invariant.3 d ready)),
   )
 ]

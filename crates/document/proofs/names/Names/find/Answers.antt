@@ -1,4 +1,4 @@
-use Rattle.std.proofs.Common.{◌-◌, subst, arith, MatchOption}
+use Rattle.std.proofs.Common.{subst, arith, MatchOption}
 use native.Mathlib.Nat.{sub-zero}
 use Rattle.program.specs.Names.{Missing, Number}
 use Rattle.document.specs.NameLists.{spellings}
