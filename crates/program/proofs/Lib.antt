@@ -11,6 +11,7 @@ pub mod Parts
 pub mod Places
 pub mod Prefixes
 pub mod Readers
+pub mod Spellings
 pub mod States
 pub mod Unique
 pub mod Whole

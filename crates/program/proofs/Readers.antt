@@ -10,6 +10,7 @@ use Rattle.program.specs.Reading.{ClosedOff, PartOf, Entered, Joined, word, inne
 use Rattle.program.specs.Text.{Tree, factor, sequence, sum, Spells, lone, semi, single, plus}
 use Rattle.program.specs.Words.{Program, either, seq, star}
 use Rattle.program.specs.declared.fault.ProgramFault.{ProgramFault}
+use Rattle.program.specs.declared.name.Name.{Name}
 use Rattle.program.specs.declared.row.Draft.{Draft}
 use Rattle.program.specs.declared.row.Part.{Part}
 use Rattle.program.proofs.Drafts.{next_name, either_entered, seq_entered, star_entered, entered_again}
@@ -31,11 +32,11 @@ closed_bound text l (Err f) at n low names h = tt
 abbrev pub At : List ℕ → ℕ → ℕ → Type 0
 At text at c = (at < length text) × (get_or text at 0 ≡ c)
 
-means_stars : (acts : List (List ℕ)) (k : ℕ) (t : Tree) (p : Program) → Means acts t p → Means acts (trees k t) (stars k p)
+means_stars : (acts : List Name) (k : ℕ) (t : Tree) (p : Program) → Means acts t p → Means acts (trees k t) (stars k p)
 means_stars acts zero t p m = m
 means_stars acts (suc k) t p m = (stars k p, means_stars acts k t p m, refl)
 
-means_none : (acts : List (List ℕ)) (k : ℕ) (t : Tree) → ((p : Program) → Means acts t p → ⊥) → (p : Program) → Means acts (trees k t) p → ⊥
+means_none : (acts : List Name) (k : ℕ) (t : Tree) → ((p : Program) → Means acts t p → ⊥) → (p : Program) → Means acts (trees k t) p → ⊥
 means_none acts zero t h p m = h p m
 means_none acts (suc k) t h p m = means_none acts k t h m.0 m.1
 
@@ -47,7 +48,7 @@ entered_stars : (k : ℕ) (p : Program) (a c : Draft) → Entered (star p) a c �
 entered_stars zero p a c h = h
 entered_stars (suc k) p a c h = entered_again (stars k p) a c (entered_stars k p a c h)
 
-module _ (text : List ℕ) (at : ℕ) (acts : List (List ℕ)) (old : Draft) where
+module _ (text : List ℕ) (at : ℕ) (acts : List Name) (old : Draft) where
   -- what is read where a part stands that goes on to rest
   abbrev Answer : Draft → Result Part ProgramFault → List ℕ → Tree → Type 0
   Answer new r bs t = MatchResult r (ReadAs acts t (at + length bs) old new) (Unread acts t)

@@ -8,6 +8,7 @@ use Rattle.program.specs.Reading.{Atom, word, inner, Unnamed, Ends}
 use Rattle.program.specs.Text.{Tree, leaf, choice, chain, repeat, Kind, factor, sequence, sum, Spells, named, group, star, lone, semi, single, plus}
 use Rattle.program.specs.Words.{Program, act, either, seq}
 use Rattle.program.specs.Words as words
+use Rattle.program.specs.declared.name.Name.{Name}
 use Rattle.program.proofs.Ends.{ends_sum, ends_sequence, not_plus, not_semi}
 use Rattle.program.proofs.Factors.{trees, unstarred}
 use Rattle.program.proofs.Places.{unnamed}
@@ -132,11 +133,11 @@ pub one_tree : (text : List ℕ) (s t : Tree) → Spells sum 0 text s → Spells
 one_tree text s t q r = (claims q [] tt 0 text t [] r tt refl).0
 
 -- a name has one number
-pub one_number : (acts : List (List ℕ)) (bs : List ℕ) (a b : ℕ) → Number acts bs a → Number acts bs b → a ≡ b
+one_number : (acts : List Name) (bs : List ℕ) (a b : ℕ) → Number acts bs a → Number acts bs b → a ≡ b
 one_number acts bs a b f g =
     ⊎_elim (λ e. e) (⊎_elim (λ l. absurd (g.2 a l f.1)) (λ l. absurd (f.2 b l g.1))) (cases_order a b)
 
-one_meaning : (acts : List (List ℕ)) (t : Tree) (p q : Program) → Means acts t p → Means acts t q → p ≡ q
+one_meaning : (acts : List Name) (t : Tree) (p q : Program) → Means acts t p → Means acts t q → p ≡ q
 one_meaning acts (leaf bs) p q f g = f.2 ∙ ap act (one_number acts bs f.0 g.0 f.1 g.1) ∙ sym g.2
 one_meaning acts (choice s t) p q f g =
     f.4 ∙ ap (λ v. either v f.1) (one_meaning acts s f.0 g.0 f.2 g.2) ∙ ap (either g.0) (one_meaning acts t f.1 g.1 f.3 g.3) ∙ sym g.4

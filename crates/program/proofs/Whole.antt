@@ -11,6 +11,7 @@ use Rattle.program.specs.Text.{Tree, leaf, choice, chain, repeat, sum, WellForme
 use Rattle.program.specs.Words.{Program}
 use Rattle.program.specs.declared.fault.ProgramFault.{ProgramFault}
 use Rattle.program.specs.declared.fault.ProgramFault.TheVariants.{Malformed, Undeclared, TooMany}
+use Rattle.program.specs.declared.name.Name.{Name}
 use Rattle.program.specs.declared.row.Draft.{Draft}
 use Rattle.program.specs.declared.row.Part.{Part}
 use Rattle.program.proofs.Bits.{bit_none}
@@ -18,7 +19,7 @@ use Rattle.program.proofs.Bits.{bit_none}
 abbrev pub blank : Draft
 blank = record { names = 0; actions = replicate 16 0; follow = replicate 16 0 }
 
-pub malformed : (text : List ℕ) (acts : List (List ℕ)) (f : ProgramFault) → MalformedBy text f → Refused text acts f
+pub malformed : (text : List ℕ) (acts : List Name) (f : ProgramFault) → MalformedBy text f → Refused text acts f
 malformed text acts (Malformed column) h = h
 malformed text acts Undeclared h = absurd h
 malformed text acts TooMany h = absurd h
@@ -33,7 +34,7 @@ two_below xs ys n f g k h =
     (λ high. subst (λ v. v < n) (sym (get_or-append_right xs ys (length xs) k 0 refl high)) (g (k - length xs) (omega arith)))
     (cases_lt k (length xs))
 
-module _ (acts : List (List ℕ)) where
+module _ (acts : List Name) where
   names_below : (t : Tree) (p : Program) → Means acts t p → (k : ℕ) → k < length (names p) → get_or (names p) k 0 < length acts
   names_below (leaf bs) p m k =
       rw m.2 (λ h. let z : k ≡ 0 = omega arith in rw z m.1.0)
@@ -43,7 +44,7 @@ module _ (acts : List (List ℕ)) where
       rw m.4 (two_below (names m.0) (names m.1) (length acts) (names_below s m.0 m.2) (names_below t m.1 m.3) k)
   names_below (repeat t) p m k = rw m.2 (names_below t m.0 m.1 k)
 
-module _ (text : List ℕ) (acts : List (List ℕ)) (old new : Draft) (from : old ≡ blank) (well : WellFormed text) where
+module _ (text : List ℕ) (acts : List Name) (old new : Draft) (from : old ≡ blank) (well : WellFormed text) where
   -- a name is not declared
   pub whole_err : (f : ProgramFault) → ReadsPart sum text 0 acts old new (Err f) → Refused text acts f
   whole_err f reads =

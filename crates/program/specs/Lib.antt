@@ -7,6 +7,7 @@ pub mod Programs
 pub mod Reading
 pub mod RowStates
 pub mod Rows
+pub mod Spellings
 pub mod Steps
 pub mod Tables
 pub mod Text

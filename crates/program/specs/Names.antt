@@ -21,14 +21,14 @@ pub record Named (bs : List ℕ) : Type 0 where
 abbrev pub spelled : Name → List ℕ
 spelled n = take n.len n.bytes
 
--- none of the first n names is this one
-abbrev pub Absent : List (List ℕ) → ℕ → List ℕ → Type 0
-Absent names n bs = (k : ℕ) → k < n → slice_index_or names k [] ≢ bs
+-- the bytes of the k-th name
+abbrev pub name_at : List Name → ℕ → List ℕ
+name_at names k = spelled (slice_index_or names k (record { bytes = []; len = 0 }))
 
--- no name is this one
-abbrev pub Missing : List (List ℕ) → List ℕ → Type 0
-Missing names bs = Absent names (length names) bs
+-- none of the first n names is spelled so
+abbrev pub Absent : List Name → ℕ → List ℕ → Type 0
+Absent names n bs = (k : ℕ) → k < n → name_at names k ≢ bs
 
--- the number of a name: the first place where it stands
-abbrev pub Number : List (List ℕ) → List ℕ → ℕ → Type 0
-Number names bs i = (i < length names) × (slice_index_or names i [] ≡ bs) × Absent names i bs
+-- i is the first name that is spelled so
+abbrev pub Number : List Name → List ℕ → ℕ → Type 0
+Number names bs i = (i < length names) × (name_at names i ≡ bs) × Absent names i bs

@@ -8,6 +8,7 @@ use Rattle.program.specs.Text.{Tree, leaf, Kind, factor, sequence, sum, Spells}
 use Rattle.program.specs.Words.{Program}
 use Rattle.program.specs.declared.fault.ProgramFault.{ProgramFault}
 use Rattle.program.specs.declared.fault.ProgramFault.TheVariants.{Undeclared}
+use Rattle.program.specs.declared.name.Name.{Name}
 use Rattle.program.specs.declared.row.Draft.{Draft}
 use Rattle.program.specs.declared.row.Part.{Part}
 
@@ -50,7 +51,7 @@ Ends sum [] = Unit {0}
 Ends sum (c ∷ bs) = c ≡ 41
 
 -- the program that the tree means was read up to a place
-pub record ReadAs (acts : List (List ℕ)) (t : Tree) (to : ℕ) (old new : Draft) (part : Part) : Type 0 where
+pub record ReadAs (acts : List Name) (t : Tree) (to : ℕ) (old new : Draft) (part : Part) : Type 0 where
   pub program : Program
   pub means : Means acts t program
   pub reaches : part.end ≡ to
@@ -58,11 +59,11 @@ pub record ReadAs (acts : List (List ℕ)) (t : Tree) (to : ℕ) (old new : Draf
   pub entered : Entered program old new
 
 -- a name of the tree is not declared
-abbrev pub Unread : List (List ℕ) → Tree → ProgramFault → Type 0
+abbrev pub Unread : List Name → Tree → ProgramFault → Type 0
 Unread acts t f = (f ≡ Undeclared) × ((p : Program) → Means acts t p → ⊥)
 
 -- what a reader at a place gives, where a part S stands that does not go on
-abbrev pub Reads : (List ℕ → Tree → Type 0) → (List ℕ → Type 0) → List ℕ → ℕ → List (List ℕ) → Draft → Draft → Result Part ProgramFault → Type 0
+abbrev pub Reads : (List ℕ → Tree → Type 0) → (List ℕ → Type 0) → List ℕ → ℕ → List Name → Draft → Draft → Result Part ProgramFault → Type 0
 Reads S E text at acts old new r =
     (bs rest : List ℕ) (t : Tree)
     → S bs t
@@ -71,15 +72,15 @@ Reads S E text at acts old new r =
     → MatchResult r (ReadAs acts t (at + length bs) old new) (Unread acts t)
 
 -- where a name or a sum in parentheses stands
-abbrev pub ReadsAtom : List ℕ → ℕ → List (List ℕ) → Draft → Draft → Result Part ProgramFault → Type 0
+abbrev pub ReadsAtom : List ℕ → ℕ → List Name → Draft → Draft → Result Part ProgramFault → Type 0
 ReadsAtom = Reads (λ bs t. (d : ℕ) × Atom d bs t) Unnamed
 
 -- where a factor, a sequence or a sum stands
-abbrev pub ReadsPart : Kind → List ℕ → ℕ → List (List ℕ) → Draft → Draft → Result Part ProgramFault → Type 0
+abbrev pub ReadsPart : Kind → List ℕ → ℕ → List Name → Draft → Draft → Result Part ProgramFault → Type 0
 ReadsPart k = Reads (λ bs t. (d : ℕ) × Spells k d bs t) (Ends k)
 
 -- where a name stands
-abbrev pub ReadsWord : List ℕ → ℕ → List (List ℕ) → Draft → Draft → Result Part ProgramFault → Type 0
+abbrev pub ReadsWord : List ℕ → ℕ → List Name → Draft → Draft → Result Part ProgramFault → Type 0
 ReadsWord = Reads (λ bs t. Named bs × (t ≡ leaf bs)) Unnamed
 
 -- the sum that was read, one byte further where its closing parenthesis stands

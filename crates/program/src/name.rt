@@ -1,6 +1,7 @@
 // Names: 1 to 16 of a-z, 0-9 and _, a letter first.
 ghost use Rattle.std.specs.Prelude.{◌≡◌, ◌≤◌, map, length, Decides, MatchOption, slice_index};
-ghost use Rattle.program.specs.Names.{letter, naming, Named, spelled, Missing, Number};
+ghost use Rattle.program.specs.Names.{letter, naming, Named, spelled, Absent, Number};
+ghost use Rattle.program.specs.Spellings.{Missing, NumberIn};
 
 #[derive(Clone, Copy)]
 pub struct Name {
@@ -98,7 +99,8 @@ impl Name {
 
 // The number of the name that the field spells.
 pub fn find(names: &[Name], field: &[u8]) -> Option<usize>
-    ensures { MatchOption result (Missing (map spelled names.now) field.now) (λ i. Number (map spelled names.now) field.now i) }
+    ensures is { MatchOption result (Absent names.now (length names.now) field.now) (λ i. Number names.now field.now i) }
+    ensures by_bytes { MatchOption result (Missing (map spelled names.now) field.now) (λ i. NumberIn (map spelled names.now) field.now i) }
 {
     for i in 0..names.len() {
         if names[i].is(field) {

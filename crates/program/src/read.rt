@@ -4,6 +4,7 @@ ghost use Rattle.std.specs.Prelude.{◌≡◌, ℕ, ◌+◌, ◌<◌, ◌≤◌,
 ghost use Rattle.program.specs.Names.{naming as is-naming, spelled};
 ghost use Rattle.program.specs.Programs.{OneProgram, Refused, SpellsRow};
 ghost use Rattle.program.specs.Reading.{ClosedOff, ReadsWord, ReadsAtom, ReadsPart};
+ghost use Rattle.program.specs.Spellings.{OneProgramIn, RefusedIn, SpellsRowIn};
 ghost use Rattle.program.specs.Text.{Kind};
 
 use crate::check::check;
@@ -43,7 +44,7 @@ fn stars_end(text: &[u8], at: usize) -> usize
 fn action(text: &[u8], at: usize, acts: &[Name], draft: &mut Draft) -> Result<Part, ProgramFault>
     requires { (at ≤ length text.now) × (draft.old.names ≤ at) }
     ensures bound { IfOk result (λ p. (at < p.end) × (p.end ≤ length text.now) × (draft.new.names ≤ p.end)) }
-    ensures reads { ReadsWord text.now at (map spelled acts.now) draft.old draft.new result }
+    ensures reads { ReadsWord text.now at acts.now draft.old draft.new result }
 {
     let end = name_end(text, at);
     if end == at {
@@ -86,7 +87,7 @@ fn closed(text: &[u8], inside: Part) -> Result<Part, ProgramFault>
 fn atom(text: &[u8], at: usize, acts: &[Name], draft: &mut Draft) -> Result<Part, ProgramFault>
     requires { (at ≤ length text.now) × (draft.old.names ≤ at) }
     ensures bound { IfOk result (λ p. (at < p.end) × (p.end ≤ length text.now) × (draft.new.names ≤ p.end)) }
-    ensures reads { ReadsAtom text.now at (map spelled acts.now) draft.old draft.new result }
+    ensures reads { ReadsAtom text.now at acts.now draft.old draft.new result }
 {
     if at < text.len() && text[at] == b'(' {
         let inside = sum(text, at + 1, acts, draft)?;
@@ -100,7 +101,7 @@ fn atom(text: &[u8], at: usize, acts: &[Name], draft: &mut Draft) -> Result<Part
 fn factor(text: &[u8], at: usize, acts: &[Name], draft: &mut Draft) -> Result<Part, ProgramFault>
     requires { (at ≤ length text.now) × (draft.old.names ≤ at) }
     ensures bound { IfOk result (λ p. (at < p.end) × (p.end ≤ length text.now) × (draft.new.names ≤ p.end)) }
-    ensures reads { ReadsPart Kind.factor text.now at (map spelled acts.now) draft.old draft.new result }
+    ensures reads { ReadsPart Kind.factor text.now at acts.now draft.old draft.new result }
 {
     let base = atom(text, at, acts, draft)?;
     let end = stars_end(text, base.end);
@@ -116,7 +117,7 @@ fn factor(text: &[u8], at: usize, acts: &[Name], draft: &mut Draft) -> Result<Pa
 fn sequence(text: &[u8], at: usize, acts: &[Name], draft: &mut Draft) -> Result<Part, ProgramFault>
     requires { (at ≤ length text.now) × (draft.old.names ≤ at) }
     ensures bound { IfOk result (λ p. (at < p.end) × (p.end ≤ length text.now) × (draft.new.names ≤ p.end)) }
-    ensures reads { ReadsPart Kind.sequence text.now at (map spelled acts.now) draft.old draft.new result }
+    ensures reads { ReadsPart Kind.sequence text.now at acts.now draft.old draft.new result }
 {
     let left = factor(text, at, acts, draft)?;
     let end = left.end;
@@ -133,7 +134,7 @@ fn sequence(text: &[u8], at: usize, acts: &[Name], draft: &mut Draft) -> Result<
 fn sum(text: &[u8], at: usize, acts: &[Name], draft: &mut Draft) -> Result<Part, ProgramFault>
     requires { (at ≤ length text.now) × (draft.old.names ≤ at) }
     ensures bound { IfOk result (λ p. (at < p.end) × (p.end ≤ length text.now) × (draft.new.names ≤ p.end)) }
-    ensures reads { ReadsPart Kind.sum text.now at (map spelled acts.now) draft.old draft.new result }
+    ensures reads { ReadsPart Kind.sum text.now at acts.now draft.old draft.new result }
 {
     let left = sequence(text, at, acts, draft)?;
     let end = left.end;
@@ -148,7 +149,9 @@ fn sum(text: &[u8], at: usize, acts: &[Name], draft: &mut Draft) -> Result<Part,
 pub fn read(text: &[u8], acts: &[Name]) -> Result<Row, ProgramFault>
     ensures names { IfOk result (λ row. row.names ≤ 15) }
     ensures one { OneProgram }
-    ensures says { MatchResult result (λ row. SpellsRow text.now (map spelled acts.now) row) (λ f. Refused text.now (map spelled acts.now) f) }
+    ensures says { MatchResult result (λ row. SpellsRow text.now acts.now row) (λ f. Refused text.now acts.now f) }
+    ensures one_in { OneProgramIn }
+    ensures spells { MatchResult result (λ row. SpellsRowIn text.now (map spelled acts.now) row) (λ f. RefusedIn text.now (map spelled acts.now) f) }
 {
     check(text)?;
     let mut draft = Draft::new();

@@ -1,5 +1,4 @@
-use Rattle.std.proofs.Common.{map, sym, subst, arith, rules}
-use Rattle.program.specs.Names.{spelled}
+use Rattle.std.proofs.Common.{sym, subst, arith, rules}
 use Rattle.program.specs.Reading.{ReadsAtom, ReadsPart}
 use Rattle.program.specs.Text.{factor, sequence, sum}
 use Rattle.program.proofs.Readers.{err_is, closed_bound, atom_word, atom_err, atom_closed, factor_err, factor_alone, factor_stars, sequence_left_err, sequence_right_err, sequence_both, sequence_alone, sum_left_err, sum_right_err, sum_both, sum_alone}
@@ -12,7 +11,7 @@ pub atom-returns-in_err-inside : goal.atom-returns-in_err-inside
 atom-returns-in_err-inside t c =
     let text = c.args.text.now in
     let at = c.args.at in
-    let acts = map spelled c.args.acts.now in
+    let acts = c.args.acts.now in
     let old = c.args.draft.now in
     let e = err_is c.from_residual.ensures.1 in
     record {
@@ -26,7 +25,7 @@ pub atom-returns-then-text-at-eq40 : goal.atom-returns-then-text-at-eq40
 atom-returns-then-text-at-eq40 t c =
     let text = c.args.text.now in
     let at = c.args.at in
-    let acts = map spelled c.args.acts.now in
+    let acts = c.args.acts.now in
     let old = c.args.draft.now in
     record {
       bound = closed_bound text c.in_ok-inside.inside c.closed.result at c.sum.new.draft.names (omega (arith, c.in_ok-inside.ensures.bound))
@@ -39,7 +38,7 @@ pub atom-returns : goal.atom-returns
 atom-returns t c =
     let text = c.args.text.now in
     let at = c.args.at in
-    let acts = map spelled c.args.acts.now in
+    let acts = c.args.acts.now in
     let old = c.args.draft.now in
     record {
       bound = c.action.ensures.bound;
@@ -51,7 +50,7 @@ pub factor-returns-in_err-base : goal.factor-returns-in_err-base
 factor-returns-in_err-base t c =
     let text = c.args.text.now in
     let at = c.args.at in
-    let acts = map spelled c.args.acts.now in
+    let acts = c.args.acts.now in
     let old = c.args.draft.now in
     let e = err_is c.from_residual.ensures.1 in
     record {
@@ -64,7 +63,7 @@ pub factor-returns-then-end-base : goal.factor-returns-then-end-base
 factor-returns-then-end-base t c =
     let text = c.args.text.now in
     let at = c.args.at in
-    let acts = map spelled c.args.acts.now in
+    let acts = c.args.acts.now in
     let old = c.args.draft.now in
     let s = c.stars_end-end.ensures in
     record {
@@ -77,7 +76,7 @@ pub factor-returns : goal.factor-returns
 factor-returns t c =
     let text = c.args.text.now in
     let at = c.args.at in
-    let acts = map spelled c.args.acts.now in
+    let acts = c.args.acts.now in
     let old = c.args.draft.now in
     let s = c.stars_end-end.ensures in
     record {
@@ -91,7 +90,7 @@ pub sequence-returns-in_err-left : goal.sequence-returns-in_err-left
 sequence-returns-in_err-left t c =
     let text = c.args.text.now in
     let at = c.args.at in
-    let acts = map spelled c.args.acts.now in
+    let acts = c.args.acts.now in
     let old = c.args.draft.now in
     let e = err_is c.from_residual.ensures.1 in
     record {
@@ -104,7 +103,7 @@ pub sequence-returns-in_err-right : goal.sequence-returns-in_err-right
 sequence-returns-in_err-right t c =
     let text = c.args.text.now in
     let at = c.args.at in
-    let acts = map spelled c.args.acts.now in
+    let acts = c.args.acts.now in
     let old = c.args.draft.now in
     let e = err_is c.from_residual-in_err-right.ensures.1 in
     record {
@@ -119,7 +118,7 @@ pub sequence-returns-then-text-end-eq59 : goal.sequence-returns-then-text-end-eq
 sequence-returns-then-text-end-eq59 t c =
     let text = c.args.text.now in
     let at = c.args.at in
-    let acts = map spelled c.args.acts.now in
+    let acts = c.args.acts.now in
     let old = c.args.draft.now in
     record {
       bound = omega (arith, c.in_ok-left.ensures.bound, c.in_ok-right.ensures.bound, c.connect.ensures.count, c.then.ensures.end);
@@ -132,7 +131,7 @@ pub sequence-returns : goal.sequence-returns
 sequence-returns t c =
     let text = c.args.text.now in
     let at = c.args.at in
-    let acts = map spelled c.args.acts.now in
+    let acts = c.args.acts.now in
     let old = c.args.draft.now in
     record {
       bound = search rules;
@@ -144,7 +143,7 @@ pub sum-returns-in_err-left : goal.sum-returns-in_err-left
 sum-returns-in_err-left t c =
     let text = c.args.text.now in
     let at = c.args.at in
-    let acts = map spelled c.args.acts.now in
+    let acts = c.args.acts.now in
     let old = c.args.draft.now in
     let e = err_is c.from_residual.ensures.1 in
     record {
@@ -157,7 +156,7 @@ pub sum-returns-in_err-right : goal.sum-returns-in_err-right
 sum-returns-in_err-right t c =
     let text = c.args.text.now in
     let at = c.args.at in
-    let acts = map spelled c.args.acts.now in
+    let acts = c.args.acts.now in
     let old = c.args.draft.now in
     let e = err_is c.from_residual-in_err-right.ensures.1 in
     record {
@@ -171,7 +170,7 @@ pub sum-returns-then-text-end-eq43 : goal.sum-returns-then-text-end-eq43
 sum-returns-then-text-end-eq43 t c =
     let text = c.args.text.now in
     let at = c.args.at in
-    let acts = map spelled c.args.acts.now in
+    let acts = c.args.acts.now in
     let old = c.args.draft.now in
     record {
       bound = omega (arith, c.in_ok-left.ensures.bound, c.in_ok-right.ensures.bound, c.either.ensures.end);
@@ -184,7 +183,7 @@ pub sum-returns : goal.sum-returns
 sum-returns t c =
     let text = c.args.text.now in
     let at = c.args.at in
-    let acts = map spelled c.args.acts.now in
+    let acts = c.args.acts.now in
     let old = c.args.draft.now in
     record {
       bound = search rules;

@@ -1,6 +1,6 @@
-use Rattle.std.proofs.Common.{map, length, refl, subst, arith}
+use Rattle.std.proofs.Common.{length, refl, subst, arith}
 use lib.Bits.{bit_and, and_mask}
-use Rattle.program.specs.Names.{spelled, Number, Absent}
+use Rattle.program.specs.Names.{Number, Absent}
 use Rattle.program.specs.Words.{act}
 use Rattle.program.proofs.Drafts.{act_entered}
 use Rattle.program.proofs.Places.{word_end, word_is}
@@ -24,7 +24,7 @@ returns-in-None c =
       reads = λ bs rest t n e un.
           let i = word_end c.args.text.now bs rest c.args.at c.name_end-end.result s.within.0 s.within.1 s.all s.stops n.0 e un in
           let w = word_is c.args.text.now bs rest c.args.at c.name_end-end.result i e in
-          let none : Absent (map spelled c.args.acts.now) (length (map spelled c.args.acts.now)) bs = subst (Absent (map spelled c.args.acts.now) (length (map spelled c.args.acts.now))) w c.in-None.ensures in
+          let none : Absent c.args.acts.now (length c.args.acts.now) bs = subst (Absent c.args.acts.now (length c.args.acts.now)) w c.in-None.ensures.is in
           rw n.1 (refl, λ p m. none m.0 m.1.0 m.1.1);
     }
 
@@ -39,7 +39,7 @@ returns-in-Some c =
       reads = λ bs rest t n e un.
           let i = word_end c.args.text.now bs rest c.args.at c.name_end-end.result s.within.0 s.within.1 s.all s.stops n.0 e un in
           let w = word_is c.args.text.now bs rest c.args.at c.name_end-end.result i e in
-          let found : Number (map spelled c.args.acts.now) bs number = subst (λ v. Number (map spelled c.args.acts.now) v number) w c.in-Some.ensures in
+          let found : Number c.args.acts.now bs number = subst (λ v. Number c.args.acts.now v number) w c.in-Some.ensures.is in
           rw n.1
           (record {
             program = act number;
