@@ -3,18 +3,22 @@ use Rattle.std.proofs.Common.{◌≡◌, ℕ, zero, suc, ◌+◌, ◌<◌, ◌�
 use Rattle.std.specs.List.{AllByRecursion}
 use Rattle.std.proofs.lemmas.Bool.{cases_eq, cases_lt, cases_Bool, both_ways}
 use Rattle.program.specs.Automata.{names}
-use Rattle.program.specs.Names.{Named, letter, naming as is-naming, Absent, Missing}
-use Rattle.program.specs.Programs.{Means, SpellsProgram}
+use Rattle.program.specs.Names.{Named, letter, naming as is-naming}
+use Rattle.program.specs.Spellings.{AbsentIn, Missing}
+use Rattle.program.specs.Spellings.{MeansIn, SpellsProgramIn}
 use Rattle.program.specs.Steps.{stand, stepped}
 use Rattle.program.specs.Text.{Tree, leaf, choice, chain, repeat, WellFormed, FaultAt}
 use Rattle.program.specs.Words.{Program, act, either, seq, star}
 use Rattle.program.specs.declared.check.Prefix.{Prefix}
 use Rattle.program.proofs.Columns.{goes_more, ends_whole, ends_early, ends_refused}
 use Rattle.program.proofs.Goes.{Goes}
-use Rattle.program.proofs.Unique.{one_tree, one_program}
+use Rattle.program.proofs.Unique.{one_tree}
+use Rattle.program.proofs.Spellings.{one_program_in}
 use Rattle.document.specs.Documents.{weight}
-use Rattle.document.specs.Lines.{Declarations, nothing, Line, act_line, prop_line, goal_line, prog_line, true_form, prop_form, not_form, and_form, or_form, next_form, until_form, shown, named_fields, KnownName, NewName, NamesKnown, FormOf, FormFits, Within, InPlace, MalformedAt, ReadsAs, Fine, Faulty, shape, program, naming, limit, order, Adds}
-use Rattle.document.specs.Outcomes.{Outcome, taken, refused, Comes, no_goal, unended, faulty, declares, aims, line_after, Loads, too_long, read, HasOneOutcome}
+use Rattle.document.specs.Lines.{Declarations, nothing, Line, act_line, prop_line, goal_line, prog_line, true_form, prop_form, not_form, and_form, or_form, next_form, until_form, shown, named_fields, InPlace, MalformedAt, ReadsAs}
+use Rattle.document.specs.Declaring.{KnownName, NewName, NamesKnown, FormOf, FormFits, Within, Fine, Faulty, shape, program, naming, limit, order, Adds}
+use Rattle.document.specs.Outcomes.{Outcome, taken, refused}
+use Rattle.document.specs.Coming.{Comes, no_goal, unended, faulty, declares, aims, line_after, Loads, too_long, read, HasOneOutcome}
 use Rattle.document.specs.Texts.{fields, pieces}
 use Rattle.document.specs.declared.form.Form.{Form}
 use Rattle.document.specs.declared.form.Form.TheVariants.{True, Prop, Not, And, Or, Next, Until}
@@ -50,7 +54,7 @@ same_bytes : (xs ys : List ℕ) → Decided (xs ≡ ys)
 same_bytes = same_list cases_eq
 
 -- a name is known or missing
-first_below : (ns : List (List ℕ)) (n : List ℕ) (k : ℕ) → ((i : ℕ) × (i < k) × (get_or ns i [] ≡ n) × Absent ns i n) ⊎ Absent ns k n
+first_below : (ns : List (List ℕ)) (n : List ℕ) (k : ℕ) → ((i : ℕ) × (i < k) × (get_or ns i [] ≡ n) × AbsentIn ns i n) ⊎ AbsentIn ns k n
 first_below ns n zero = inr (λ k h e. omega arith)
 first_below ns n (suc k) =
     ⊎_elim
@@ -142,7 +146,7 @@ malformed (next_form n u q) = inr (λ c m. m)
 malformed (until_form n p r q) = inr (λ c m. m)
 
 -- the names of a tree are declared or not
-means : (acts : List (List ℕ)) (t : Tree) → Decided ((p : Program) × Means acts t p)
+means : (acts : List (List ℕ)) (t : Tree) → Decided ((p : Program) × MeansIn acts t p)
 means acts (leaf bs) = ⊎_elim (λ k. inl (act k.0, (k.0, k.1, refl))) (λ un. inr (λ m. un (m.1.0, m.1.1))) (known acts bs)
 means acts (choice s t) =
     ⊎_elim
@@ -156,11 +160,11 @@ means acts (chain s t) =
     (means acts s)
 means acts (repeat t) = ⊎_elim (λ a. inl (star a.0, (a.0, a.1, refl))) (λ un. inr (λ m. un (m.1.0, m.1.1))) (means acts t)
 
-spells : (text : List ℕ) (acts : List (List ℕ)) → WellFormed text → Decided ((p : Program) × SpellsProgram text acts p)
+spells : (text : List ℕ) (acts : List (List ℕ)) → WellFormed text → Decided ((p : Program) × SpellsProgramIn text acts p)
 spells text acts (t, s) =
     ⊎_elim
     (λ a. inl (a.0, (t, s, a.1)))
-    (λ un. inr (λ m. un (m.0, subst (λ v. Means acts v m.0) (one_tree text m.1.0 t m.1.1 s) m.1.2)))
+    (λ un. inr (λ m. un (m.0, subst (λ v. MeansIn acts v m.0) (one_tree text m.1.0 t m.1.1 s) m.1.2)))
     (means acts t)
 
 new_name : (d : Declarations) (x : Line) → Decided (NewName d x)
@@ -216,9 +220,9 @@ sorted d (prop_line n) k = record { within = below (length d.props) 16; does = i
 sorted d (goal_line n) k = record { within = inl tt; does = inl (n, refl) }
 sorted d (prog_line n text) k =
     record {
-      within = both (length d.progs < 16) ((p : Program) → SpellsProgram text d.acts p → length (names p) ≤ 15) (below (length d.progs) 16)
+      within = both (length d.progs < 16) ((p : Program) → SpellsProgramIn text d.acts p → length (names p) ≤ 15) (below (length d.progs) 16)
           (⊎_elim (λ many. inr (λ t. omega (arith, t k.0 k.1)))
-          (λ few. inl (λ q other. subst (λ (v : Program). length (names v) ≤ 15) (one_program text d.acts k.0 q k.1 other) few))
+          (λ few. inl (λ q other. subst (λ (v : Program). length (names v) ≤ 15) (one_program_in text d.acts k.0 q k.1 other) few))
           (cases_lt 15 (length (names k.0))));
       does = inr (_, (k.0, k.1, refl));
     }

@@ -2,16 +2,18 @@
 use Rattle.std.proofs.Common.{◌≡◌, ℕ, ◌+◌, ◌<◌, ◌≤◌, List, [], ◌∷◌, ◌++◌, length, get_or, take, set, codes, sym, refl, ap, ◌∙◌, subst, ⊎_elim, arith}
 use Rattle.std.specs.List.{AllByRecursion}
 use Rattle.std.proofs.lemmas.Bool.{cases_lt}
-use Rattle.program.specs.Names.{Named, Missing}
+use Rattle.program.specs.Names.{Named}
+use Rattle.program.specs.Spellings.{Missing}
 use Rattle.program.specs.Words.{Program}
-use Rattle.program.proofs.Unique.{one_number}
+use Rattle.program.proofs.Spellings.{one_number_in}
 use Rattle.document.specs.Documents.{weight}
 use Rattle.document.specs.Faults.{line_fault_code, line_fault_column}
 use Rattle.document.specs.Forms.{Earlier, weight_in}
 use Rattle.document.specs.Holds.{Holds}
 use Rattle.document.specs.Kept.{names_of}
 use Rattle.document.specs.Kinds.{first_word, word_of, operands_of, form_with}
-use Rattle.document.specs.Lines.{Declarations, Line, act_line, prop_line, goal_line, prog_line, true_form, prop_form, not_form, and_form, or_form, next_form, until_form, shown, named_fields, New, NewName, NamesKnown, KnownName, FormOf, FormFits, Within, InPlace, MalformedAt, ReadsAs, Faulty, shape, naming, limit, AddsForm, Adds}
+use Rattle.document.specs.Lines.{Declarations, Line, act_line, prop_line, goal_line, prog_line, true_form, prop_form, not_form, and_form, or_form, next_form, until_form, shown, named_fields, InPlace, MalformedAt, ReadsAs}
+use Rattle.document.specs.Declaring.{New, NewName, NamesKnown, KnownName, FormOf, FormFits, Within, Faulty, shape, naming, limit, AddsForm, Adds}
 use Rattle.document.specs.Texts.{fields}
 use Rattle.document.specs.Told.{word_in, NewBelow, Declares}
 use Rattle.document.specs.declared.declared.Declared.{Declared}
@@ -154,18 +156,18 @@ one_form d (prop_line n) f g a b = absurd a
 one_form d (goal_line n) f g a b = absurd a
 one_form d (prog_line n p) f g a b = absurd a
 one_form d (true_form n) f g a b = a ∙ sym b
-one_form d (prop_form n p) f g a b = a.2 ∙ ap form.Prop (one_number d.props p a.0 b.0 a.1 b.1) ∙ sym b.2
-one_form d (not_form n p) f g a b = a.2 ∙ ap form.Not (one_number d.form_names p a.0 b.0 a.1 b.1) ∙ sym b.2
+one_form d (prop_form n p) f g a b = a.2 ∙ ap form.Prop (one_number_in d.props p a.0 b.0 a.1 b.1) ∙ sym b.2
+one_form d (not_form n p) f g a b = a.2 ∙ ap form.Not (one_number_in d.form_names p a.0 b.0 a.1 b.1) ∙ sym b.2
 one_form d (and_form n p q) f g a b =
-    a.4 ∙ ap (λ v. form.And v a.1) (one_number d.form_names p a.0 b.0 a.2 b.2) ∙ ap (form.And b.0) (one_number d.form_names q a.1 b.1 a.3 b.3) ∙ sym b.4
+    a.4 ∙ ap (λ v. form.And v a.1) (one_number_in d.form_names p a.0 b.0 a.2 b.2) ∙ ap (form.And b.0) (one_number_in d.form_names q a.1 b.1 a.3 b.3) ∙ sym b.4
 one_form d (or_form n p q) f g a b =
-    a.4 ∙ ap (λ v. form.Or v a.1) (one_number d.form_names p a.0 b.0 a.2 b.2) ∙ ap (form.Or b.0) (one_number d.form_names q a.1 b.1 a.3 b.3) ∙ sym b.4
+    a.4 ∙ ap (λ v. form.Or v a.1) (one_number_in d.form_names p a.0 b.0 a.2 b.2) ∙ ap (form.Or b.0) (one_number_in d.form_names q a.1 b.1 a.3 b.3) ∙ sym b.4
 one_form d (next_form n p q) f g a b =
-    a.4 ∙ ap (λ v. form.Next v a.1) (one_number d.acts p a.0 b.0 a.2 b.2) ∙ ap (form.Next b.0) (one_number d.form_names q a.1 b.1 a.3 b.3) ∙ sym b.4
+    a.4 ∙ ap (λ v. form.Next v a.1) (one_number_in d.acts p a.0 b.0 a.2 b.2) ∙ ap (form.Next b.0) (one_number_in d.form_names q a.1 b.1 a.3 b.3) ∙ sym b.4
 one_form d (until_form n p r q) f g a b =
-    a.6 ∙ ap (λ v. form.Until v a.1 a.2) (one_number d.form_names p a.0 b.0 a.3 b.3)
-    ∙ ap (λ v. form.Until b.0 v a.2) (one_number d.prog_names r a.1 b.1 a.4 b.4)
-    ∙ ap (form.Until b.0 b.1) (one_number d.form_names q a.2 b.2 a.5 b.5) ∙ sym b.6
+    a.6 ∙ ap (λ v. form.Until v a.1 a.2) (one_number_in d.form_names p a.0 b.0 a.3 b.3)
+    ∙ ap (λ v. form.Until b.0 v a.2) (one_number_in d.prog_names r a.1 b.1 a.4 b.4)
+    ∙ ap (form.Until b.0 b.1) (one_number_in d.form_names q a.2 b.2 a.5 b.5) ∙ sym b.6
 
 -- the weight with one form more
 weight_more : (held : Declared) (ps : List Program) (f : Form) → Holds held (told held ps) → Earlier held.props.count held.acts.count held.progs.count held.forms.count f

@@ -3,12 +3,13 @@ use Rattle.std.proofs.Common.{◌≡◌, ℕ, ◌<◌, ◌≤◌, ◌≢◌, Lis
 use Rattle.std.proofs.lemmas.List.{get_or_append_left, get_or_push, length_push}
 use Rattle.std.proofs.lemmas.Bool.{cases_eq}
 use Rattle.program.specs.Automata.{names}
-use Rattle.program.specs.Programs.{SpellsProgram}
+use Rattle.program.specs.Spellings.{SpellsProgramIn}
 use Rattle.program.specs.Words.{Program, act}
-use Rattle.program.proofs.Unique.{one_program}
+use Rattle.program.proofs.Spellings.{one_program_in}
 use Rattle.document.specs.Documents.{weight}
 use Rattle.document.specs.Forms.{Earlier}
-use Rattle.document.specs.Lines.{Declarations, nothing, Line, act_line, prop_line, goal_line, prog_line, true_form, prop_form, not_form, and_form, or_form, next_form, until_form, FormOf, WellNamed, Fine, AddsForm, Adds}
+use Rattle.document.specs.Lines.{Declarations, nothing, Line, act_line, prop_line, goal_line, prog_line, true_form, prop_form, not_form, and_form, or_form, next_form, until_form}
+use Rattle.document.specs.Declaring.{FormOf, WellNamed, Fine, AddsForm, Adds}
 use Rattle.document.specs.declared.form.Form.{Form}
 use Rattle.document.specs.declared.form.Form.TheVariants.{True, Prop, Not, And, Or, Next, Until}
 use Rattle.document.proofs.FormLines.{FormLine, one_form}
@@ -18,7 +19,7 @@ use Rattle.document.proofs.Held.{weight_kept, weight_push}
 data Grows (d : Declarations) : Line → Declarations → Type 0 where
   by_act : (n : List ℕ) → Grows d (act_line n) (record { acts = d.acts ++ n ∷ []; props = d.props; prog_names = d.prog_names; progs = d.progs; form_names = d.form_names; forms = d.forms })
   by_prop : (n : List ℕ) → Grows d (prop_line n) (record { acts = d.acts; props = d.props ++ n ∷ []; prog_names = d.prog_names; progs = d.progs; form_names = d.form_names; forms = d.forms })
-  by_prog : (n text : List ℕ) (p : Program) → SpellsProgram text d.acts p → Grows d (prog_line n text) (record { acts = d.acts; props = d.props; prog_names = d.prog_names ++ n ∷ []; progs = d.progs ++ p ∷ []; form_names = d.form_names; forms = d.forms })
+  by_prog : (n text : List ℕ) (p : Program) → SpellsProgramIn text d.acts p → Grows d (prog_line n text) (record { acts = d.acts; props = d.props; prog_names = d.prog_names ++ n ∷ []; progs = d.progs ++ p ∷ []; form_names = d.form_names; forms = d.forms })
   by_form : (x : Line) (n : List ℕ) (f : Form) → FormLine d x n → FormOf d x f → Grows d x (record { acts = d.acts; props = d.props; prog_names = d.prog_names; progs = d.progs; form_names = d.form_names ++ n ∷ []; forms = d.forms ++ f ∷ [] })
 
 grows_form : (d m : Declarations) (x : Line) (n : List ℕ) → FormLine d x n → AddsForm d x n m → Grows d x m
@@ -181,7 +182,7 @@ back_grows d m x s well (by_prog n text p says) h =
       record {
         spelled = λ c e. e.unwell (says.0, says.1);
         well_named = well;
-        within = (omega (arith, h.few_progs), λ q other. subst (λ (v : Program). length (names v) ≤ 15) (one_program text d.acts p q says other) last);
+        within = (omega (arith, h.few_progs), λ q other. subst (λ (v : Program). length (names v) ≤ 15) (one_program_in text d.acts p q says other) last);
         in_place = tt;
       },
       record {

@@ -16,3 +16,4 @@ pub mod Short
 pub mod Shown
 pub mod Spelling
 pub mod Spellings
+pub mod ThreeLines

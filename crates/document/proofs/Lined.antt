@@ -2,8 +2,9 @@
 use Rattle.std.proofs.Common.{◌≡◌, ℕ, ◌+◌, ◌<◌, ◌≤◌, List, [], ◌∷◌, ◌++◌, length, get_or, take, set, codes, sym, refl, ap, ◌∙◌, subst, ⊎_elim, arith}
 use Rattle.program.specs.Automata.{names}
 use Rattle.program.specs.Faults.{MalformedBy}
-use Rattle.program.specs.Names.{Named, Missing, Number}
-use Rattle.program.specs.Programs.{SpellsRow, Refused, OneProgram}
+use Rattle.program.specs.Names.{Named}
+use Rattle.program.specs.Spellings.{Missing, NumberIn}
+use Rattle.program.specs.Spellings.{SpellsRowIn, RefusedIn, OneProgramIn}
 use Rattle.program.specs.Text.{WellFormed, FaultAt}
 use Rattle.program.specs.declared.fault.ProgramFault.{ProgramFault}
 use Rattle.program.specs.declared.fault.ProgramFault.TheVariants.{Malformed, Undeclared, TooMany}
@@ -11,7 +12,8 @@ use Rattle.program.specs.declared.row.Row.{Row}
 use Rattle.document.specs.Faults.{program_fault_code, program_fault_column, line_fault_code, line_fault_column}
 use Rattle.document.specs.Holds.{Holds}
 use Rattle.document.specs.Kept.{names_of}
-use Rattle.document.specs.Lines.{Declarations, act_line, prop_line, prog_line, goal_line, KnownName, ReadsAs, Faulty, program, naming, limit, order}
+use Rattle.document.specs.Lines.{Declarations, act_line, prop_line, prog_line, goal_line, ReadsAs}
+use Rattle.document.specs.Declaring.{KnownName, Faulty, program, naming, limit, order}
 use Rattle.document.specs.Texts.{fields}
 use Rattle.document.specs.Told.{word_in, NewBelow, Declares, Aims}
 use Rattle.document.specs.declared.declared.Declared.{Declared}
@@ -136,15 +138,15 @@ module _ (held : Declared) (bytes : List ℕ) where
         prog_known known =
             of_all held (λ d. Faulty d bytes 4 0) (λ ps h. naming (prog_line first text) prog_reads sound (λ x. not_both (names_of held.progs) first x.0 known))
 
-        pub prog_refused : (f : ProgramFault) → Missing (names_of held.progs) first → Refused text (names_of held.acts) f
-            → OneProgram → (d : Declarations) → Holds held d → Faulty d bytes (program_fault_code f) (program_fault_column f)
+        pub prog_refused : (f : ProgramFault) → Missing (names_of held.progs) first → RefusedIn text (names_of held.acts) f
+            → OneProgramIn → (d : Declarations) → Holds held d → Faulty d bytes (program_fault_code f) (program_fault_column f)
         prog_refused (Malformed column) new h one = λ d x. absurd (h.unwell well)
         prog_refused Undeclared new h one =
             of_all held (λ d. Faulty d bytes 4 0) (λ ps x. naming (prog_line first text) prog_reads sound (λ y. h.1 y.1.0 y.1.1))
         prog_refused TooMany new h one =
             of_all held (λ d. Faulty d bytes 5 0) (λ ps x. limit (prog_line first text) prog_reads sound (new, (h.0, h.1)) (λ y. omega (arith, y.1 h.0 h.1, h.2)))
 
-        pub prog_below : (f : LineFault) (row : Row) → SpellsRow text (names_of held.acts) row → NewBelow (names_of held.progs) held.progs.count first 16 f
+        pub prog_below : (f : LineFault) (row : Row) → SpellsRowIn text (names_of held.acts) row → NewBelow (names_of held.progs) held.progs.count first 16 f
             → (d : Declarations) → Holds held d → Faulty d bytes (line_fault_code f) (line_fault_column f)
         prog_below f row says h =
             of_all held (λ d. Faulty d bytes (line_fault_code f) (line_fault_column f)) (λ ps x.
@@ -152,7 +154,7 @@ module _ (held : Declared) (bytes : List ℕ) where
             (λ known. naming (prog_line first text) prog_reads sound (λ y. not_both (names_of held.progs) first y.0 known))
             (λ new high. limit (prog_line first text) prog_reads sound (new, (says.0, says.1)) (λ y. omega (arith, x.progs, y.0))))
 
-        pub prog_done : (next : Declared) (row : Row) → Missing (names_of held.progs) first → held.progs.count < 16 → SpellsRow text (names_of held.acts) row → OneProgram
+        pub prog_done : (next : Declared) (row : Row) → Missing (names_of held.progs) first → held.progs.count < 16 → SpellsRowIn text (names_of held.acts) row → OneProgramIn
             → next.progs.count ≡ held.progs.count + 1
             → names_of next.progs ≡ names_of held.progs ++ first ∷ []
             → next.rows ≡ set held.rows held.progs.count row
@@ -197,11 +199,11 @@ module _ (held : Declared) (bytes : List ℕ) where
       goal_unknown new =
           of_all held (λ d. Faulty d bytes 4 0) (λ ps h. naming (goal_line first) goal_reads (λ c m. m) (λ x. not_both (names_of held.forms) first new x.1))
 
-      pub goal_early : (i : ℕ) → Number (names_of held.forms) first i → held.acts.count ≡ 0 → (d : Declarations) → Holds held d → Faulty d bytes 6 0
+      pub goal_early : (i : ℕ) → NumberIn (names_of held.forms) first i → held.acts.count ≡ 0 → (d : Declarations) → Holds held d → Faulty d bytes 6 0
       goal_early i is none =
           of_all held (λ d. Faulty d bytes 6 0) (λ ps h. order (goal_line first) goal_reads (λ c m. m) (tt, (i, is)) tt (λ x. omega (arith, acts_long held)))
 
-      pub goal_done : (doc : Document) → Number (names_of held.forms) first doc.goal → 0 < held.acts.count → doc.declared ≡ held
+      pub goal_done : (doc : Document) → NumberIn (names_of held.forms) first doc.goal → 0 < held.acts.count → doc.declared ≡ held
           → (d : Declarations) → Holds held d → Aims held d bytes doc
       goal_done doc is some same-held =
           of_all held (λ d. Aims held d bytes doc) (λ ps h.

@@ -1,11 +1,13 @@
 -- A text has no two outcomes.
 use Rattle.std.proofs.Common.{◌≡◌, ℕ, suc, List, [], ◌∷◌, ◌++◌, sym, refl, ap, ◌∙◌, subst, ⊎_elim, arith}
 use Rattle.std.proofs.lemmas.Bool.{cases_order}
-use Rattle.program.specs.Names.{Number}
+use Rattle.program.specs.Spellings.{NumberIn}
 use Rattle.program.specs.Text.{FaultAt}
-use Rattle.program.proofs.Unique.{one_number, one_program}
-use Rattle.document.specs.Lines.{Declarations, Line, act_line, prop_line, goal_line, prog_line, true_form, prop_form, not_form, and_form, or_form, next_form, until_form, ReadsAs, MalformedAt, WellNamed, Within, InPlace, Faulty, shape, program, naming, limit, order, Fine, AddsForm, Adds}
-use Rattle.document.specs.Outcomes.{Outcome, taken, refused, Comes, no_goal, unended, faulty, declares, aims, line_after, Loads, too_long, read}
+use Rattle.program.proofs.Spellings.{one_number_in, one_program_in}
+use Rattle.document.specs.Lines.{Declarations, Line, act_line, prop_line, goal_line, prog_line, true_form, prop_form, not_form, and_form, or_form, next_form, until_form, ReadsAs, MalformedAt, InPlace}
+use Rattle.document.specs.Declaring.{WellNamed, Within, Faulty, shape, program, naming, limit, order, Fine, AddsForm, Adds}
+use Rattle.document.specs.Outcomes.{Outcome, taken, refused}
+use Rattle.document.specs.Coming.{Comes, no_goal, unended, faulty, declares, aims, line_after, Loads, too_long, read}
 use Rattle.document.proofs.FormLines.{one_form}
 use Rattle.document.proofs.Shown.{one_reading}
 
@@ -76,7 +78,7 @@ one_adds d (act_line n) e h a b = a ∙ sym b
 one_adds d (prop_line n) e h a b = a ∙ sym b
 one_adds d (goal_line f) e h a b = absurd a
 one_adds d (prog_line n text) e h a b =
-    a.2 ∙ ap (λ v. record { acts = d.acts; props = d.props; prog_names = d.prog_names ++ n ∷ []; progs = d.progs ++ v ∷ []; form_names = d.form_names; forms = d.forms }) (one_program text d.acts a.0 b.0 a.1 b.1) ∙ sym b.2
+    a.2 ∙ ap (λ v. record { acts = d.acts; props = d.props; prog_names = d.prog_names ++ n ∷ []; progs = d.progs ++ v ∷ []; form_names = d.form_names; forms = d.forms }) (one_program_in text d.acts a.0 b.0 a.1 b.1) ∙ sym b.2
 one_adds d (true_form n) e h a b = one_adds_form d (true_form n) n e h a b
 one_adds d (prop_form n p) e h a b = one_adds_form d (prop_form n p) n e h a b
 one_adds d (not_form n f) e h a b = one_adds_form d (not_form n f) n e h a b
@@ -107,7 +109,7 @@ one_comes (aims f r fine i) (faulty g) = absurd (not_faulty (goal_line f) r fine
 one_comes {d} (aims f r fine i) (declares {e = e} {l = l} y s good a c) = absurd (no_goal_adds d e l y f s r a)
 one_comes {d} (aims {goal = u} {l = l} f r fine i) (aims {goal = v} g s good j) =
     let same = same_goal (one_reading l (goal_line f) (goal_line g) r s) in
-    ap (taken d) (one_number d.form_names g u v (subst (λ w. Number d.form_names w u) same i) j)
+    ap (taken d) (one_number_in d.form_names g u v (subst (λ w. NumberIn d.form_names w u) same i) j)
 one_comes (aims f r fine i) (line_after g s good ne) = absurd (ne refl)
 one_comes (line_after f r fine ne) (faulty g) = absurd (not_faulty (goal_line f) r fine g)
 one_comes {d} (line_after f r fine ne) (declares {e = e} {l = l} y s good a c) = absurd (no_goal_adds d e l y f s r a)

@@ -4,9 +4,11 @@ use Rattle.std.proofs.lemmas.List.{drop_more, drop_all, length-drop}
 use Rattle.std.proofs.lemmas.Bool.{cond-true, cond-false, eq-eqb, ne_eqb, cases_eq, cases_Bool}
 use Rattle.document.specs.Faults.{line_fault_code, line_fault_column}
 use Rattle.document.specs.Holds.{Holds}
-use Rattle.document.specs.Lines.{Declarations, nothing, Faulty}
+use Rattle.document.specs.Lines.{Declarations, nothing}
+use Rattle.document.specs.Declaring.{Faulty}
 use Rattle.document.specs.Loading.{Goes_on, LineRead}
-use Rattle.document.specs.Outcomes.{Outcome, taken, refused, Comes, no_goal, unended, faulty, declares, aims, line_after}
+use Rattle.document.specs.Outcomes.{Outcome, taken, refused}
+use Rattle.document.specs.Coming.{Comes, no_goal, unended, faulty, declares, aims, line_after}
 use Rattle.document.specs.Texts.{pieces, put_first}
 use Rattle.document.specs.Told.{Declares, Aims}
 use Rattle.document.specs.declared.declared.Declared.{Declared}

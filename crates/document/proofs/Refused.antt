@@ -3,9 +3,10 @@ use Rattle.std.proofs.Common.{◌≡◌, ℕ, true, false, List, is_some, IsErrA
 use Rattle.std.specs.Option as options
 use Rattle.std.proofs.lemmas.Result.{err_from_is_err_and}
 use Rattle.std.proofs.lemmas.Bool.{both_ways}
-use Rattle.program.specs.Names.{Missing}
+use Rattle.program.specs.Spellings.{Missing}
 use Rattle.document.specs.Faults.{line_fault_code, line_fault_column}
-use Rattle.document.specs.Lines.{Declarations, KnownName, Faulty}
+use Rattle.document.specs.Lines.{Declarations}
+use Rattle.document.specs.Declaring.{KnownName, Faulty}
 use Rattle.document.specs.declared.fault.LineFault.{LineFault}
 
 -- the exit of a `?`, where the fault is known

@@ -3,7 +3,8 @@ use Rattle.std.proofs.Common.{◌≡◌, ℕ, ◌+◌, cond, eqb, List, [], leng
 use Rattle.std.specs.List.{AllByRecursion}
 use Rattle.program.specs.Names.{Named}
 use Rattle.document.specs.Kinds.{word_of, form_with}
-use Rattle.document.specs.Lines.{Declarations, Line, act_line, prop_line, goal_line, prog_line, true_form, prop_form, not_form, and_form, or_form, next_form, until_form, shown, named_fields, ReadsAs, Faulty, shape}
+use Rattle.document.specs.Lines.{Declarations, Line, act_line, prop_line, goal_line, prog_line, true_form, prop_form, not_form, and_form, or_form, next_form, until_form, shown, named_fields, ReadsAs}
+use Rattle.document.specs.Declaring.{Faulty, shape}
 use Rattle.document.specs.Texts.{fields}
 use Rattle.document.specs.declared.words.Kind.{Kind}
 use Rattle.document.specs.declared.words.Kind.TheVariants.{True, Prop, Not, And, Or, Next, Until}

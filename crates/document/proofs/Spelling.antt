@@ -1,9 +1,11 @@
 -- A text is taken as a document exactly if it spells it.
 use Rattle.std.proofs.Common.{◌≡◌, ℕ, suc, ◌<◌, List, [], ◌∷◌, ◌++◌, length, sym, refl, ap, ◌∙◌, subst, arith}
-use Rattle.program.specs.Names.{Number}
+use Rattle.program.specs.Spellings.{NumberIn}
 use Rattle.document.specs.Documents.{Document, WellFormed}
-use Rattle.document.specs.Lines.{Declarations, nothing, document_of, Line, goal_line, ReadsAs, Fine, Adds}
-use Rattle.document.specs.Outcomes.{Outcome, taken, Comes, declares, aims, Loads, read}
+use Rattle.document.specs.Lines.{Declarations, nothing, document_of, Line, goal_line, ReadsAs}
+use Rattle.document.specs.Declaring.{Fine, Adds}
+use Rattle.document.specs.Outcomes.{Outcome, taken}
+use Rattle.document.specs.Coming.{Comes, declares, aims, Loads, read}
 use Rattle.document.specs.Spelled.{ReadLines, Declare, SpellsDocument, AcceptedExactly, OneDocument}
 use Rattle.document.proofs.Documented.{refers_so}
 use Rattle.document.proofs.Growing.{Sound, sound_nothing, sound_adds, Limits, limits_nothing, limits_adds, back}
@@ -17,7 +19,7 @@ record Says (d : Declarations) (ps : List (List ℕ)) (e : Declarations) (goal :
   pub ended : ps ≡ bytes ++ [] ∷ []
   pub reads : ReadLines bytes (lines ++ goal_line aim ∷ [])
   pub declares : Declare d lines e
-  pub aims : Number e.form_names aim goal
+  pub aims : NumberIn e.form_names aim goal
   pub sound : Sound e
   pub limits : Limits e
   pub active : 0 < length e.acts
@@ -40,7 +42,7 @@ says {d} s h (declares {e = m} {l = l} x r fine a c) =
 says s h (aims {l = l} f r fine i) =
     record { lines = []; aim = f; bytes = l ∷ []; ended = refl; reads = (r, tt); declares = refl; aims = i; sound = s; limits = h; active = fine.in_place }
 
-well : (e : Declarations) (goal : ℕ) (aim : List ℕ) → Sound e → Limits e → 0 < length e.acts → Number e.form_names aim goal → WellFormed (document_of e goal)
+well : (e : Declarations) (goal : ℕ) (aim : List ℕ) → Sound e → Limits e → 0 < length e.acts → NumberIn e.form_names aim goal → WellFormed (document_of e goal)
 well e goal aim s h active i =
     record {
       active = active;
@@ -67,13 +69,13 @@ spelled_by text d e goal (read short c) is =
       ended = t.ended;
       reads = t.reads;
       declares = t.declares;
-      aims = subst (Number e.form_names t.aim) (sym at) t.aims;
+      aims = subst (NumberIn e.form_names t.aim) (sym at) t.aims;
       is = is ∙ ap (document_of e) (sym at);
       well_formed = subst WellFormed (sym is) (well e goal t.aim t.sound t.limits t.active t.aims);
     }
 
 -- the last line
-ends : (d : Declarations) (bs : List (List ℕ)) (aim : List ℕ) (goal n : ℕ) → 0 < length d.acts → Number d.form_names aim goal
+ends : (d : Declarations) (bs : List (List ℕ)) (aim : List ℕ) (goal n : ℕ) → 0 < length d.acts → NumberIn d.form_names aim goal
     → ReadLines bs (goal_line aim ∷ []) → Comes d n (bs ++ [] ∷ []) (taken d goal)
 ends d [] aim goal n active i r = absurd r
 ends d (b ∷ []) aim goal n active i r = aims aim r.0 (record { spelled = λ c m. m; well_named = (tt, (goal, i)); within = tt; in_place = active }) i
@@ -85,12 +87,12 @@ in_front : (d m : Declarations) (b : List ℕ) (bs : List (List ℕ)) (x : Line)
 in_front d m b [] x n o r fine a c = declares x r fine a c
 in_front d m b (l ∷ bs) x n o r fine a c = declares x r fine a c
 
-comes : (xs : List Line) (d e : Declarations) (bs : List (List ℕ)) (aim : List ℕ) (goal : ℕ) → Sound d → Limits e → 0 < length e.acts → Number e.form_names aim goal
+comes : (xs : List Line) (d e : Declarations) (bs : List (List ℕ)) (aim : List ℕ) (goal : ℕ) → Sound d → Limits e → 0 < length e.acts → NumberIn e.form_names aim goal
     → ReadLines bs (xs ++ goal_line aim ∷ []) → Declare d xs e → Limits d × ((n : ℕ) → Comes d n (bs ++ [] ∷ []) (taken e goal))
 comes [] d e bs aim goal s h active i r same = (
   subst Limits (sym same) h,
   λ n. subst (λ v. Comes d n (bs ++ [] ∷ []) (taken v goal)) same
-      (ends d bs aim goal n (subst (λ v. 0 < length v.acts) (sym same) active) (subst (λ v. Number v.form_names aim goal) (sym same) i) r),
+      (ends d bs aim goal n (subst (λ v. 0 < length v.acts) (sym same) active) (subst (λ v. NumberIn v.form_names aim goal) (sym same) i) r),
 )
 comes (x ∷ xs) d e [] aim goal s h active i r t = absurd r
 comes (x ∷ xs) d e (b ∷ bs) aim goal s h active i r t =

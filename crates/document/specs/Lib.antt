@@ -1,3 +1,5 @@
+pub mod Coming
+pub mod Declaring
 pub mod Documents
 pub mod Faults
 pub mod Forms

@@ -1,11 +1,10 @@
 -- What the lines of a document say.
-use Rattle.std.specs.Prelude.{◌≡◌, ℕ, ◌<◌, ◌≤◌, List, [], ◌∷◌, ◌++◌, length, codes}
-use Rattle.std.specs.List.{AllByRecursion}
-use Rattle.program.specs.Words.{Program}
+use Rattle.std.specs.Prelude.{◌≡◌, ℕ, zero, suc, ◌<◌, ◌≤◌, List, [], ◌∷◌, ◌++◌, length, codes}
+use Rattle.std.specs.List.{ContainsAt as Has, AllByRecursion}
+use Rattle.program.specs.Words.{Program, act, either, seq, star}
 use Rattle.program.specs.Automata.{names}
-use Rattle.program.specs.Names.{Named, Number, Missing}
-use Rattle.program.specs.Programs.{SpellsProgram}
-use Rattle.program.specs.Text.{FaultAt}
+use Rattle.program.specs.Names.{Named}
+use Rattle.program.specs.Text.{Tree, leaf, choice, chain, repeat, sum, Spells, FaultAt}
 use Rattle.document.specs.Documents.{Document, weight}
 use Rattle.document.specs.Texts.{fields}
 use Rattle.document.specs.declared.form.Form.{Form}
@@ -26,6 +25,12 @@ nothing = record { acts = []; props = []; prog_names = []; progs = []; form_name
 -- the document of these declarations with this goal
 abbrev pub document_of : Declarations → ℕ → Document
 document_of d goal = record { acts = length d.acts; props = length d.props; progs = d.progs; forms = d.forms; goal = goal }
+
+-- the name is declared, with this number
+abbrev pub Numbered : List (List ℕ) → List ℕ → ℕ → Type 0
+Numbered [] name i = ⊥
+Numbered (n ∷ ns) name zero = n ≡ name
+Numbered (n ∷ ns) name (suc i) = Numbered ns name i
 
 -- a line by its fields
 pub data Line : Type 0 where
@@ -68,44 +73,33 @@ named_fields (until_form n f p g) = n ∷ f ∷ p ∷ g ∷ []
 abbrev pub ReadsAs : List ℕ → Line → Type 0
 ReadsAs bytes x = (fields bytes ≡ shown x) × AllByRecursion Named (named_fields x)
 
+-- the program that a tree of names means over the declared actions
+abbrev pub Means : List (List ℕ) → Tree → Program → Type 0
+Means acts (leaf bs) p = (a : ℕ) × Numbered acts bs a × (p ≡ act a)
+Means acts (choice s t) p = (q : Program) × (r : Program) × Means acts s q × Means acts t r × (p ≡ either q r)
+Means acts (chain s t) p = (q : Program) × (r : Program) × Means acts s q × Means acts t r × (p ≡ seq q r)
+Means acts (repeat t) p = (q : Program) × Means acts t q × (p ≡ star q)
+
+abbrev pub SpellsProgram : List (List ℕ) → List ℕ → Program → Type 0
+SpellsProgram acts text p = (t : Tree) × Spells sum 0 text t × Means acts t p
+
 -- the name is new in its kind
 abbrev pub New : List (List ℕ) → List ℕ → Type 0
-New ns name = Missing ns name
+New ns name = Has ns name → ⊥
 
--- the name is declared
-abbrev pub KnownName : List (List ℕ) → List ℕ → Type 0
-KnownName ns name = (i : ℕ) × Number ns name i
-
--- the name that a line declares is new in its kind
-abbrev pub NewName : Declarations → Line → Type 0
-NewName d (act_line n) = New d.acts n
-NewName d (prop_line n) = New d.props n
-NewName d (goal_line f) = Unit {0}
-NewName d (prog_line n text) = New d.prog_names n
-NewName d (true_form n) = New d.form_names n
-NewName d (prop_form n p) = New d.form_names n
-NewName d (not_form n f) = New d.form_names n
-NewName d (and_form n f g) = New d.form_names n
-NewName d (or_form n f g) = New d.form_names n
-NewName d (next_form n a f) = New d.form_names n
-NewName d (until_form n f p g) = New d.form_names n
-
--- the names that a line uses are declared before
-abbrev pub NamesKnown : Declarations → Line → Type 0
-NamesKnown d (act_line n) = Unit {0}
-NamesKnown d (prop_line n) = Unit {0}
-NamesKnown d (goal_line f) = KnownName d.form_names f
-NamesKnown d (prog_line n text) = (p : Program) × SpellsProgram text d.acts p
-NamesKnown d (true_form n) = Unit {0}
-NamesKnown d (prop_form n p) = KnownName d.props p
-NamesKnown d (not_form n f) = KnownName d.form_names f
-NamesKnown d (and_form n f g) = KnownName d.form_names f × KnownName d.form_names g
-NamesKnown d (or_form n f g) = KnownName d.form_names f × KnownName d.form_names g
-NamesKnown d (next_form n a f) = KnownName d.acts a × KnownName d.form_names f
-NamesKnown d (until_form n f p g) = KnownName d.form_names f × KnownName d.prog_names p × KnownName d.form_names g
-
+-- names are new where they are declared, and declared before where they are used
 abbrev pub WellNamed : Declarations → Line → Type 0
-WellNamed d x = NewName d x × NamesKnown d x
+WellNamed d (act_line n) = New d.acts n
+WellNamed d (prop_line n) = New d.props n
+WellNamed d (goal_line f) = Has d.form_names f
+WellNamed d (prog_line n text) = New d.prog_names n × ((p : Program) × SpellsProgram d.acts text p)
+WellNamed d (true_form n) = New d.form_names n
+WellNamed d (prop_form n p) = New d.form_names n × Has d.props p
+WellNamed d (not_form n f) = New d.form_names n × Has d.form_names f
+WellNamed d (and_form n f g) = New d.form_names n × Has d.form_names f × Has d.form_names g
+WellNamed d (or_form n f g) = New d.form_names n × Has d.form_names f × Has d.form_names g
+WellNamed d (next_form n a f) = New d.form_names n × Has d.acts a × Has d.form_names f
+WellNamed d (until_form n f p g) = New d.form_names n × Has d.form_names f × Has d.prog_names p × Has d.form_names g
 
 -- the form that a line declares
 abbrev pub FormOf : Declarations → Line → Form → Type 0
@@ -114,13 +108,13 @@ FormOf d (prop_line n) e = ⊥
 FormOf d (goal_line f) e = ⊥
 FormOf d (prog_line n p) e = ⊥
 FormOf d (true_form n) e = e ≡ True
-FormOf d (prop_form n p) e = (i : ℕ) × Number d.props p i × (e ≡ Prop i)
-FormOf d (not_form n f) e = (i : ℕ) × Number d.form_names f i × (e ≡ Not i)
-FormOf d (and_form n f g) e = (i : ℕ) × (j : ℕ) × Number d.form_names f i × Number d.form_names g j × (e ≡ And i j)
-FormOf d (or_form n f g) e = (i : ℕ) × (j : ℕ) × Number d.form_names f i × Number d.form_names g j × (e ≡ Or i j)
-FormOf d (next_form n a f) e = (i : ℕ) × (j : ℕ) × Number d.acts a i × Number d.form_names f j × (e ≡ Next i j)
+FormOf d (prop_form n p) e = (i : ℕ) × Numbered d.props p i × (e ≡ Prop i)
+FormOf d (not_form n f) e = (i : ℕ) × Numbered d.form_names f i × (e ≡ Not i)
+FormOf d (and_form n f g) e = (i : ℕ) × (j : ℕ) × Numbered d.form_names f i × Numbered d.form_names g j × (e ≡ And i j)
+FormOf d (or_form n f g) e = (i : ℕ) × (j : ℕ) × Numbered d.form_names f i × Numbered d.form_names g j × (e ≡ Or i j)
+FormOf d (next_form n a f) e = (i : ℕ) × (j : ℕ) × Numbered d.acts a i × Numbered d.form_names f j × (e ≡ Next i j)
 FormOf d (until_form n f p g) e =
-    (i : ℕ) × (k : ℕ) × (j : ℕ) × Number d.form_names f i × Number d.prog_names p k × Number d.form_names g j × (e ≡ Until i k j)
+    (i : ℕ) × (k : ℕ) × (j : ℕ) × Numbered d.form_names f i × Numbered d.prog_names p k × Numbered d.form_names g j × (e ≡ Until i k j)
 
 -- one form more stays within 64 forms and weight 256
 abbrev pub FormFits : Declarations → Line → Type 0
@@ -131,7 +125,7 @@ abbrev pub Within : Declarations → Line → Type 0
 Within d (act_line n) = length d.acts < 16
 Within d (prop_line n) = length d.props < 16
 Within d (goal_line f) = Unit {0}
-Within d (prog_line n text) = (length d.progs < 16) × ((p : Program) → SpellsProgram text d.acts p → length (names p) ≤ 15)
+Within d (prog_line n text) = (length d.progs < 16) × ((p : Program) → SpellsProgram d.acts text p → length (names p) ≤ 15)
 Within d (true_form n) = FormFits d (true_form n)
 Within d (prop_form n p) = FormFits d (prop_form n p)
 Within d (not_form n f) = FormFits d (not_form n f)
@@ -195,7 +189,7 @@ Adds d (act_line n) e = e ≡ record { acts = d.acts ++ n ∷ []; props = d.prop
 Adds d (prop_line n) e = e ≡ record { acts = d.acts; props = d.props ++ n ∷ []; prog_names = d.prog_names; progs = d.progs; form_names = d.form_names; forms = d.forms }
 Adds d (goal_line f) e = ⊥
 Adds d (prog_line n text) e =
-    (p : Program) × SpellsProgram text d.acts p
+    (p : Program) × SpellsProgram d.acts text p
     × (e ≡ record { acts = d.acts; props = d.props; prog_names = d.prog_names ++ n ∷ []; progs = d.progs ++ p ∷ []; form_names = d.form_names; forms = d.forms })
 Adds d (true_form n) e = AddsForm d (true_form n) n e
 Adds d (prop_form n p) e = AddsForm d (prop_form n p) n e

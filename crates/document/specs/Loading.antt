@@ -4,8 +4,10 @@ use Rattle.std.specs.Option as options
 use Rattle.document.specs.Documents.{WellFormed}
 use Rattle.document.specs.Faults.{line_fault_code, line_fault_column, load_fault_code, load_fault_line, load_fault_column}
 use Rattle.document.specs.Holds.{Holds}
-use Rattle.document.specs.Lines.{Declarations, document_of, Faulty}
-use Rattle.document.specs.Outcomes.{taken, refused, Loads}
+use Rattle.document.specs.Lines.{Declarations, document_of}
+use Rattle.document.specs.Declaring.{Faulty}
+use Rattle.document.specs.Outcomes.{taken, refused}
+use Rattle.document.specs.Coming.{Loads}
 use Rattle.document.specs.Represents.{Represents}
 use Rattle.document.specs.Told.{Declares, Aims}
 use Rattle.document.specs.declared.document.Document.{Document}

@@ -1,7 +1,6 @@
 -- What comes of a text that is loaded: a document, or the first fault with its code, line and column.
 use Rattle.std.specs.Prelude.{◌≡◌, ℕ, suc, ◌<◌, ◌≤◌, List, [], ◌∷◌, length, ◌≢◌}
-use Rattle.document.specs.Lines.{Declarations, nothing, Line, goal_line, ReadsAs, Faulty, Fine, Adds}
-use Rattle.program.specs.Names.{Number}
+use Rattle.document.specs.Lines.{Declarations, nothing, Numbered, Line, goal_line, ReadsAs, Faulty, Fine, Adds}
 use Rattle.document.specs.Texts.{pieces}
 
 pub data Outcome : Type 0 where
@@ -15,7 +14,7 @@ pub data Comes : Declarations → ℕ → List (List ℕ) → Outcome → Type 0
   faulty : {d : Declarations} {n code column : ℕ} {l m : List ℕ} {ms : List (List ℕ)} → Faulty d l code column → Comes d n (l ∷ m ∷ ms) (refused code n column)
   declares : {d e : Declarations} {n : ℕ} {l m : List ℕ} {ms : List (List ℕ)} {o : Outcome} (x : Line)
       → ReadsAs l x → Fine d x → Adds d x e → Comes e (suc n) (m ∷ ms) o → Comes d n (l ∷ m ∷ ms) o
-  aims : {d : Declarations} {n goal : ℕ} {l : List ℕ} (f : List ℕ) → ReadsAs l (goal_line f) → Fine d (goal_line f) → Number d.form_names f goal
+  aims : {d : Declarations} {n goal : ℕ} {l : List ℕ} (f : List ℕ) → ReadsAs l (goal_line f) → Fine d (goal_line f) → Numbered d.form_names f goal
       → Comes d n (l ∷ [] ∷ []) (taken d goal)
   line_after : {d : Declarations} {n : ℕ} {l m : List ℕ} {ms : List (List ℕ)} (f : List ℕ) → ReadsAs l (goal_line f) → Fine d (goal_line f) → (m ∷ ms ≢ [] ∷ [])
       → Comes d n (l ∷ m ∷ ms) (refused 6 (suc n) 0)

@@ -1,9 +1,11 @@
 -- The document that a text spells, by its lines as a whole.
 use Rattle.std.specs.Prelude.{◌≡◌, ℕ, ◌≤◌, ◌↔◌, List, [], ◌∷◌, ◌++◌, length}
-use Rattle.program.specs.Names.{Number}
+use Rattle.program.specs.Spellings.{NumberIn}
 use Rattle.document.specs.Documents.{Document, WellFormed}
-use Rattle.document.specs.Lines.{Declarations, nothing, document_of, Line, goal_line, ReadsAs, WellNamed, Adds}
-use Rattle.document.specs.Outcomes.{taken, Loads}
+use Rattle.document.specs.Lines.{Declarations, nothing, document_of, Line, goal_line, ReadsAs}
+use Rattle.document.specs.Declaring.{WellNamed, Adds}
+use Rattle.document.specs.Outcomes.{taken}
+use Rattle.document.specs.Coming.{Loads}
 use Rattle.document.specs.Texts.{pieces}
 
 -- the pieces of a text, each followed by a line feed, read as these lines
@@ -29,7 +31,7 @@ pub record SpellsDocument (text : List ℕ) (d : Document) : Type 0 where
   pub ended : pieces 10 text ≡ bytes ++ [] ∷ []
   pub reads : ReadLines bytes (lines ++ goal_line aim ∷ [])
   pub declares : Declare nothing lines declared
-  pub aims : Number declared.form_names aim d.goal
+  pub aims : NumberIn declared.form_names aim d.goal
   pub is : d ≡ document_of declared d.goal
   pub well_formed : WellFormed d
 

@@ -1,10 +1,11 @@
 -- What the readers of lines say. Internal: what it is for is said in Outcomes and Loading.
 use Rattle.std.specs.Prelude.{◌≡◌, ℕ, ◌≤◌, ◌⊎◌, List, [], Result, MatchResult, slice_index_or}
-use Rattle.program.specs.Names.{Missing, Number}
+use Rattle.program.specs.Spellings.{Missing, NumberIn}
 use Rattle.document.specs.Faults.{line_fault_code, line_fault_column}
 use Rattle.document.specs.Holds.{Holds}
 use Rattle.document.specs.Kinds.{form_with}
-use Rattle.document.specs.Lines.{Declarations, Line, goal_line, KnownName, NamesKnown, FormOf, ReadsAs, Fine, Faulty, Adds}
+use Rattle.document.specs.Lines.{Declarations, Line, goal_line, ReadsAs}
+use Rattle.document.specs.Declaring.{KnownName, NamesKnown, FormOf, Fine, Faulty, Adds}
 use Rattle.document.specs.Texts.{fields}
 use Rattle.document.specs.declared.declared.Declared.{Declared}
 use Rattle.document.specs.declared.document.Document.{Document}
@@ -45,7 +46,7 @@ pub record Aims (held : Declared) (d : Declarations) (bytes : List ℕ) (doc : D
   pub name : List ℕ
   pub reads : ReadsAs bytes (goal_line name)
   pub fine : Fine d (goal_line name)
-  pub number : Number d.form_names name doc.goal
+  pub number : NumberIn d.form_names name doc.goal
   pub declared : doc.declared ≡ held
 
 abbrev pub GoalTold : Declared → List ℕ → Result Document LineFault → Type 0

@@ -1,6 +1,7 @@
 // The lines of a document by kind. Faults are tried in the order of their codes.
 ghost use Rattle.std.specs.Prelude.{◌≡◌, ℕ, ◌+◌, ◌<◌, ◌≤◌, [], length, IfOk, codes, Decides, MatchResult, OnOk, ◌≢◌, slice_index_or};
-ghost use Rattle.program.specs.Names.{Named, spelled, Missing, Number};
+ghost use Rattle.program.specs.Names.{Named, spelled};
+ghost use Rattle.program.specs.Spellings.{Missing, NumberIn};
 ghost use Rattle.document.specs.Kept.{names_of};
 ghost use Rattle.document.specs.Told.{word_in, NewBelow, Told, FormTold, GoalTold};
 ghost use Rattle.document.specs.Texts.{fields};
@@ -31,7 +32,7 @@ fn name_of(text: &[u8]) -> Result<Name, LineFault>
 // The number of a name that is declared.
 fn number_of(names: &Names, text: &[u8]) -> Result<u8, LineFault>
     ensures within { IfOk result (λ i. i < names.now.count) }
-    ensures is { MatchResult result (λ i. Number (names_of names.now) text.now i) (λ f. (f ≡ Naming) × Missing (names_of names.now) text.now) }
+    ensures is { MatchResult result (λ i. NumberIn (names_of names.now) text.now i) (λ f. (f ≡ Naming) × Missing (names_of names.now) text.now) }
 {
     match names.find(text) {
         Some(i) => Ok(i as u8),

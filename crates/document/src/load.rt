@@ -3,7 +3,7 @@ ghost use Rattle.std.specs.Prelude.{◌≡◌, ◌+◌, ◌<◌, ◌≤◌, true
 ghost use Rattle.document.specs.Holds.{Holds};
 ghost use Rattle.document.specs.Lines.{nothing};
 ghost use Rattle.document.specs.Loading.{LineRead, Loaded};
-ghost use Rattle.document.specs.Outcomes.{HasOneOutcome};
+ghost use Rattle.document.specs.Coming.{HasOneOutcome};
 ghost use Rattle.document.specs.Spelled.{AcceptedExactly, OneDocument};
 ghost use Rattle.document.specs.Faults.{load_fault_line};
 ghost use Rattle.document.specs.declared.fault.LoadFault.TheVariants.{TooLong};

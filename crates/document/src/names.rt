@@ -1,6 +1,7 @@
 // The names declared in one kind, in order.
 ghost use Rattle.std.specs.Prelude.{◌≡◌, ◌+◌, ◌<◌, ◌≤◌, [], ◌∷◌, ◌++◌, length, take, IfSome, MatchOption, slice_index_or};
-ghost use Rattle.program.specs.Names.{spelled, Missing, Number};
+ghost use Rattle.program.specs.Names.{spelled};
+ghost use Rattle.program.specs.Spellings.{Missing, NumberIn};
 ghost use Rattle.document.specs.NameLists.{spellings};
 
 use program::name::{Name, find};
@@ -43,7 +44,7 @@ impl Names {
     // The number of the name that the field spells.
     pub fn find(&self, field: &[u8]) -> Option<usize>
         ensures within { IfSome result (λ i. i < self.now.count) }
-        ensures is { MatchOption result (Missing (spellings self.now.count self.now.list) field.now) (λ i. Number (spellings self.now.count self.now.list) field.now i) }
+        ensures is { MatchOption result (Missing (spellings self.now.count self.now.list) field.now) (λ i. NumberIn (spellings self.now.count self.now.list) field.now i) }
     {
         find(&self.list[0..self.count], field)
     }

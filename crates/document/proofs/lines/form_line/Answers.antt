@@ -1,6 +1,7 @@
 use Rattle.std.proofs.Common.{◌≡◌, ◌+◌, ◌<◌, ◌≤◌, [], ◌∷◌, ◌++◌, get_or, sym, refl, ap, ◌∙◌, subst, arith}
 use Rattle.std.proofs.lemmas.Bool.{both_ways}
-use Rattle.program.specs.Names.{Named, Missing, Number, spelled}
+use Rattle.program.specs.Names.{Named, spelled}
+use Rattle.program.specs.Spellings.{Missing, NumberIn}
 use Rattle.document.specs.Forms.{weight_in}
 use Rattle.document.specs.Kept.{names_of}
 use Rattle.document.specs.Texts.{fields}
@@ -45,8 +46,8 @@ returns-then-is_some c = λ w d h.
     (subst Named c.field-text.ensures c.in_ok-name.ensures.0)
     (λ j l. c.operands_named.ensures.0 c.if-not-operands_named.false j (subst (λ v. j < v) (sym c.operands-2.ensures.is) l)) (
       known.0,
-      subst (λ n. Number (names_of s.forms) n known.0) c.field-text.ensures
-          (subst (λ v. Number (names_of v) c.field-text.result.now known.0) c.forms-forms.ensures.is known.1),
+      subst (λ n. NumberIn (names_of s.forms) n known.0) c.field-text.ensures
+          (subst (λ v. NumberIn (names_of v) c.field-text.result.now known.0) c.forms-forms.ensures.is known.1),
     ) d h
 
 pub returns-in_err-form : goal.returns-in_err-form

@@ -1,6 +1,7 @@
 use Rattle.std.proofs.Common.{◌≡◌, [], get_or, sym, ap, ◌∙◌, subst, arith}
 use Rattle.std.proofs.lemmas.Bool.{both_ways}
-use Rattle.program.specs.Names.{Named, Missing, Number}
+use Rattle.program.specs.Names.{Named}
+use Rattle.program.specs.Spellings.{Missing, NumberIn}
 use Rattle.document.specs.Kept.{names_of}
 use Rattle.document.specs.Texts.{fields}
 use Rattle.document.specs.Told.{Aims}
@@ -37,7 +38,7 @@ returns-then-count-eq0 c = λ w d h.
     let i = c.in_ok-goal.goal in
     let none : s.acts.count ≡ 0 = subst (λ v. v.count ≡ 0) c.acts.ensures.is (sym c.count.ensures.is ∙ c.if-count-eq0.true) in
     goal_early s bytes w c.in_ok-counted.ensures (subst Named text (c.is_name.ensures.0 c.if-not-is_name.false)) i
-    (subst (λ n. Number (names_of s.forms) n i) text (subst (λ v. Number (names_of v) c.field-text.result.now i) c.forms.ensures.is c.in_ok-goal.ensures.is))
+    (subst (λ n. NumberIn (names_of s.forms) n i) text (subst (λ v. NumberIn (names_of v) c.field-text.result.now i) c.forms.ensures.is c.in_ok-goal.ensures.is))
     none d h
 
 pub returns : goal.returns
@@ -49,6 +50,6 @@ returns c = λ w d h.
     let doc = c.new.result in
     let count : c.count.result ≡ s.acts.count = c.count.ensures.is ∙ ap (λ v. v.count) c.acts.ensures.is in
     goal_done s bytes w c.in_ok-counted.ensures (subst Named text (c.is_name.ensures.0 c.if-not-is_name.false)) doc
-    (subst (λ k. Number (names_of s.forms) (get_or (fields bytes) 1 []) k) (sym c.new.ensures.goal)
-    (subst (λ n. Number (names_of s.forms) n i) text (subst (λ v. Number (names_of v) c.field-text.result.now i) c.forms.ensures.is c.in_ok-goal.ensures.is)))
+    (subst (λ k. NumberIn (names_of s.forms) (get_or (fields bytes) 1 []) k) (sym c.new.ensures.goal)
+    (subst (λ n. NumberIn (names_of s.forms) n i) text (subst (λ v. NumberIn (names_of v) c.field-text.result.now i) c.forms.ensures.is c.in_ok-goal.ensures.is)))
     (omega arith) c.new.ensures.declared d h

@@ -1,7 +1,8 @@
 use Rattle.std.proofs.Common.{◌≡◌, ◌<◌, [], ◌∷◌, ◌++◌, map, get_or, sym, refl, ap, ◌∙◌, subst}
 use Rattle.program.specs.Faults.{MalformedBy}
-use Rattle.program.specs.Names.{Named, Missing, Number, spelled}
-use Rattle.program.specs.Programs.{SpellsRow, Refused}
+use Rattle.program.specs.Names.{Named, spelled}
+use Rattle.program.specs.Spellings.{Missing, NumberIn}
+use Rattle.program.specs.Spellings.{SpellsRowIn, RefusedIn}
 use Rattle.program.specs.Text.{WellFormed}
 use Rattle.document.specs.Kept.{names_of}
 use Rattle.document.specs.Texts.{fields}
@@ -38,8 +39,8 @@ returns-then-is_some c = λ w d h.
     prog_known s bytes w c.in_ok-counted.ensures (subst Named c.field-text.ensures c.in_ok-name.ensures.0)
     (subst WellFormed c.field-program.ensures c.in_ok-check.ensures) (
       known.0,
-      subst (λ n. Number (names_of s.progs) n known.0) c.field-text.ensures
-          (subst (λ v. Number (names_of v) c.field-text.result.now known.0) c.progs-progs.ensures.is known.1),
+      subst (λ n. NumberIn (names_of s.progs) n known.0) c.field-text.ensures
+          (subst (λ v. NumberIn (names_of v) c.field-text.result.now known.0) c.progs-progs.ensures.is known.1),
     ) d h
 
 pub returns-in_err-row : goal.returns-in_err-row
@@ -53,8 +54,8 @@ returns-in_err-row c = λ w d h.
     (prog_refused s bytes w c.in_ok-counted.ensures (subst Named c.field-text.ensures c.in_ok-name.ensures.0)
     (subst WellFormed c.field-program.ensures c.in_ok-check.ensures) f
     (subst (Missing (names_of s.progs)) c.field-text.ensures (subst (λ v. Missing (names_of v) c.field-text.result.now) c.progs-progs.ensures.is none))
-    (subst (λ t. Refused t (names_of s.acts) f) c.field-program.ensures (subst (λ v. Refused c.field-program.result.now v f) acts c.in_err-row.ensures.says))
-    c.in_err-row.ensures.one d h)
+    (subst (λ t. RefusedIn t (names_of s.acts) f) c.field-program.ensures (subst (λ v. RefusedIn c.field-program.result.now v f) acts c.in_err-row.ensures.spells))
+    c.in_err-row.ensures.one_in d h)
 
 pub returns-in_err-new_below : goal.returns-in_err-new_below
 returns-in_err-new_below c = λ w d h.
@@ -66,7 +67,7 @@ returns-in_err-new_below c = λ w d h.
     refused (Declares d bytes) d bytes c.from_residual-in_err-new_below.result f f c.from_residual-in_err-new_below.ensures.1 refl
     (prog_below s bytes w c.in_ok-counted.ensures (subst Named c.field-text.ensures c.in_ok-name.ensures.0)
     (subst WellFormed c.field-program.ensures c.in_ok-check.ensures) f row
-    (subst (λ t. SpellsRow t (names_of s.acts) row) c.field-program.ensures (subst (λ v. SpellsRow c.field-program.result.now v row) acts c.in_ok-row.ensures.says))
+    (subst (λ t. SpellsRowIn t (names_of s.acts) row) c.field-program.ensures (subst (λ v. SpellsRowIn c.field-program.result.now v row) acts c.in_ok-row.ensures.spells))
     (subst (λ n. NewBelow (names_of s.progs) s.progs.count n 16 f) c.field-text.ensures
     (subst (λ v. NewBelow (names_of v) v.count c.field-text.result.now 16 f) c.progs-progs.ensures.is c.in_err-new_below.ensures.is))
     d h)
@@ -84,6 +85,6 @@ returns c = λ w d h.
     (subst WellFormed c.field-program.ensures c.in_ok-check.ensures) c.with_prog.result row
     (subst (Missing (names_of s.progs)) text (subst (λ v. Missing (names_of v) c.field-text.result.now) c.progs-progs.ensures.is c.in_ok-new_below.ensures.is))
     few
-    (subst (λ t. SpellsRow t (names_of s.acts) row) c.field-program.ensures (subst (λ v. SpellsRow c.field-program.result.now v row) acts c.in_ok-row.ensures.says))
-    c.in_ok-row.ensures.one c.with_prog.ensures.count
+    (subst (λ t. SpellsRowIn t (names_of s.acts) row) c.field-program.ensures (subst (λ v. SpellsRowIn c.field-program.result.now v row) acts c.in_ok-row.ensures.spells))
+    c.in_ok-row.ensures.one_in c.with_prog.ensures.count
     (c.with_prog.ensures.progs ∙ ap (λ n. names_of s.progs ++ n ∷ []) name) c.with_prog.ensures.row c.with_prog.ensures.rest d h

@@ -1,5 +1,6 @@
 use Rattle.std.proofs.Common.{◌≡◌, ◌<◌, [], ◌∷◌, ◌++◌, get_or, sym, refl, ap, ◌∙◌, subst}
-use Rattle.program.specs.Names.{Named, Missing, spelled}
+use Rattle.program.specs.Names.{Named, spelled}
+use Rattle.program.specs.Spellings.{Missing}
 use Rattle.document.specs.Kept.{names_of}
 use Rattle.document.specs.Texts.{fields}
 use Rattle.document.specs.Told.{NewBelow, Declares}

@@ -6,8 +6,9 @@ use Rattle.std.proofs.lemmas.Bool.{ltb-true, ltb-false}
 use Rattle.document.specs.Faults.{line_fault_code, line_fault_column, load_fault_line}
 use Rattle.document.specs.Lines.{nothing}
 use Rattle.document.specs.Loading.{LineRead, Loaded}
-use Rattle.document.specs.Outcomes.{too_long, read}
-use Rattle.document.specs.Outcomes as outcome
+use Rattle.document.specs.Coming.{too_long, read}
+use Rattle.document.specs.Coming as outcome
+use Rattle.document.specs.Outcomes as failed
 use Rattle.document.specs.Texts.{pieces}
 use Rattle.document.specs.declared.fault.LoadFault.TheVariants.{TooLong, Line}
 use Rattle.document.proofs.Deciding.{one_outcome}
@@ -55,7 +56,7 @@ returns-in_err-progress c =
       one = one_outcome;
       exactly = accepted_exactly;
       single = one_document;
-      loaded = subst (Loaded text) (sym is) (read c.if-text-gt16384.false (subst (λ n. outcome.Comes nothing 1 (pieces 10 text) (outcome.refused (line_fault_code f.fault) n (line_fault_column f.fault))) (sym number) comes));
+      loaded = subst (Loaded text) (sym is) (read c.if-text-gt16384.false (subst (λ n. outcome.Comes nothing 1 (pieces 10 text) (failed.refused (line_fault_code f.fault) n (line_fault_column f.fault))) (sym number) comes));
       line = subst (λ r. IfErr r (λ g. load_fault_line g ≤ length text + 1)) (sym is) (omega (arith, c.loop-at.invariant));
     }
 
