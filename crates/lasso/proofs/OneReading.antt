@@ -69,7 +69,7 @@ marked_has (x ∷ xs) q m (suc k) h b =
     let r = marked_has xs (suc q) m k (omega arith) (subst (Bit m) (omega arith) b) in
     marked_cases (λ v. (i : ℕ) × (i < length v) × (get_or v i [] ≡ get_or xs k [])) x xs q m (λ e. (suc r.0, omega (arith, r.1), r.2)) (λ e. r)
 
-marked_all : (P : List ℕ → Type 0) (xs : List (List ℕ)) (q m : ℕ) → All P xs → All P (marked xs q m)
+pub marked_all : (P : List ℕ → Type 0) (xs : List (List ℕ)) (q m : ℕ) → All P xs → All P (marked xs q m)
 marked_all P [] q m h = tt
 marked_all P (x ∷ xs) q m h = let r = marked_all P xs (suc q) m h.1 in marked_cases (All P) x xs q m (λ e. (h.0, r)) (λ e. r)
 

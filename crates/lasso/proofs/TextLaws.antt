@@ -14,6 +14,7 @@ use Rattle.lasso.specs.Tallies.{Tallied, Surveyed, Filled}
 use Rattle.lasso.specs.declared.scan.StepLine.{StepLine}
 use Rattle.lasso.specs.declared.scan.Tally.{Tally}
 use Rattle.lasso.specs.declared.step.Step.{Step}
+use Rattle.lasso.proofs.Agree.{line_agree}
 use Rattle.lasso.proofs.OneReading.{words_shaped, words_known, reads_same, reads_fine, faulty_same, kind_same}
 use Rattle.lasso.proofs.Splits.{pieces_next, together, together_is}
 use Rattle.lasso.proofs.Worded.{worded_lacks}
@@ -83,6 +84,7 @@ module _ (acts props : List (List ℕ)) where
       ap (λ (v : List ℕ). v ++ 10 ∷ together 10 (m ∷ ms)) (r.text ∙ ap (λ (b : Bool). worded (words_of acts props b s.step)) kind)
       ∙ ap (λ (v : List ℕ). worded (words_of acts props (ltb i stem) s.step) ++ 10 ∷ v) rest
       ∙ sym (append_assoc (worded (words_of acts props (ltb i stem) s.step)) (10 ∷ []) (lines_from acts props stem (suc i) (map step_of ss)))
+      ∙ ap (λ (v : List ℕ). v ++ lines_from acts props stem (suc i) (map step_of ss)) (line_agree acts props (ltb i stem) s.step r.shaped.marks)
 
   read_fits : {ls : List (List ℕ)} {ss : List StepLine} → AllRead acts props ls ss → All Fits (map step_of ss)
   read_fits none = tt
@@ -129,7 +131,8 @@ module _ (acts props : List (List ℕ)) where
         let line = worded (words_of acts props (ltb i stem) s) in
         let rest = lines_from acts props stem (suc i) ss in
         let e : pieces 10 (lines_from acts props stem i (s ∷ ss)) ≡ line ∷ pieces 10 rest =
-        ap (pieces 10) (append_assoc line (10 ∷ []) rest) ∙ pieces_next 10 line rest (worded_lacks (words_shaped acts props a b (ltb i stem) s h.0)) in
+        ap (λ (v : List ℕ). pieces 10 (v ++ rest)) (sym (line_agree acts props (ltb i stem) s (words_shaped acts props a b (ltb i stem) s h.0).marks))
+        ∙ ap (pieces 10) (append_assoc line (10 ∷ []) rest) ∙ pieces_next 10 line rest (worded_lacks (words_shaped acts props a b (ltb i stem) s h.0)) in
         subst (λ (l : List (List ℕ)). AllRead acts props l (lines_of stem i (s ∷ ss))) (sym e)
         (on line (pieces 10 rest) (record { fit = h.0; text = refl; shaped = words_shaped acts props a b (ltb i stem) s h.0; known = words_known acts props a b (ltb i stem) s h.0 }) (text_read stem (suc i) ss h.1))
       where
