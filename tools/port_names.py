@@ -66,6 +66,11 @@ def main():
         new = spelled(name, kinds)
         if new != name:
             turn[name] = new
+    # what the library has under that name stays
+    for path in ANTT + RT:
+        for m in re.finditer(r"Rattle\.(?:std|core)\.[\w.]*\{([^}]*)\}", open(path, encoding="utf-8").read()):
+            for name in re.split(r",\s*", m.group(1)):
+                turn.pop(name.split(" as ")[-1], None)
     back = collections.defaultdict(list)
     for name, new in turn.items():
         back[new].append(name)
@@ -73,11 +78,6 @@ def main():
     for path in ANTT + RT:
         for token in TOKEN.findall(open(path, encoding="utf-8").read()):
             seen[token].add(path)
-    for path in ANTT + RT:
-        for m in re.finditer(r"Rattle\.(?:std|core|logic)\.[\w.'-]*\{([^}]*)\}", open(path, encoding="utf-8").read()):
-            for name in re.split(r",\s*", m.group(1)):
-                if name.split(" as ")[-1] in turn:
-                    print("look: of the library:", name, path)
     for new, names in sorted(back.items()):
         if len(names) > 1 or new in found or new in seen:
             where = sorted(seen.get(new, ()))[:4]

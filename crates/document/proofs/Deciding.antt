@@ -1,6 +1,6 @@
 -- Each question that a text asks is decided, so every text has an outcome.
 use Rattle.std.proofs.Common.{◌≡◌, ℕ, zero, suc, ◌+◌, ◌<◌, ◌≤◌, Bool, true, not, ◌&&◌, eqb, ◌⊎◌, List, [], ◌∷◌, ◌++◌, length, get_or, take, Some, None, Option, sym, refl, ap, ◌∙◌, subst, inl, inr, ⊎_elim, arith}
-use Rattle.std.specs.List.{AllByRecursion as All}
+use Rattle.std.specs.List.{AllByRecursion}
 use Rattle.std.proofs.lemmas.Bool.{cases_eq, cases_lt, cases_Bool, both_ways}
 use Rattle.program.specs.Automata.{names}
 use Rattle.program.specs.Names.{Named, letter, naming as is-naming, Absent, Missing}
@@ -96,9 +96,9 @@ is_named bs =
     (λ none. inr (λ n. omega (arith, n.some)))
     (cases_lt 0 (length bs))
 
-are_named : (xs : List (List ℕ)) → Decided (All Named xs)
+are_named : (xs : List (List ℕ)) → Decided (AllByRecursion Named xs)
 are_named [] = inl tt
-are_named (x ∷ xs) = both (Named x) (All Named xs) (is_named x) (are_named xs)
+are_named (x ∷ xs) = both (Named x) (AllByRecursion Named xs) (is_named x) (are_named xs)
 
 -- a line reads somehow or not at all
 reads : (bytes : List ℕ) → ((x : Line) × ReadsAs bytes x) ⊎ ((x : Line) → ReadsAs bytes x → ⊥)
@@ -107,7 +107,7 @@ reads bytes =
     ⊎_elim
     (λ r. inl (x, r))
     (λ un. inr (λ y r. un (subst (ReadsAs bytes) (only bytes y r) r)))
-    (both (fields bytes ≡ shown x) (All Named (named_fields x)) (same_list same_bytes (fields bytes) (shown x)) (are_named (named_fields x)))
+    (both (fields bytes ≡ shown x) (AllByRecursion Named (named_fields x)) (same_list same_bytes (fields bytes) (shown x)) (are_named (named_fields x)))
 
 -- a text is a program, or has the column of its fault
 abbrev Checked : List ℕ → Type 0

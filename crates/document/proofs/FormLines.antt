@@ -1,6 +1,6 @@
 -- What comes of form lines.
 use Rattle.std.proofs.Common.{◌≡◌, ℕ, ◌+◌, ◌<◌, ◌≤◌, List, [], ◌∷◌, ◌++◌, length, get_or, take, set, codes, sym, refl, ap, ◌∙◌, subst, ⊎_elim, arith}
-use Rattle.std.specs.List.{AllByRecursion as All}
+use Rattle.std.specs.List.{AllByRecursion}
 use Rattle.std.proofs.lemmas.Bool.{cases_lt}
 use Rattle.program.specs.Names.{Named, Missing}
 use Rattle.program.specs.Words.{Program}
@@ -89,7 +89,7 @@ shown_long Next fs = refl
 shown_long Until fs = refl
 
 -- the name and the operands of a form line are its fields that have to be names
-first_named : (k : Kind) (fs : List (List ℕ)) → All Named (named_fields (form_with k fs)) → Named (get_or fs 1 [])
+first_named : (k : Kind) (fs : List (List ℕ)) → AllByRecursion Named (named_fields (form_with k fs)) → Named (get_or fs 1 [])
 first_named True fs a = a.0
 first_named Prop fs a = a.0
 first_named Not fs a = a.0
@@ -110,7 +110,7 @@ at_1 P a b j h = ⊎_elim (λ l. at_0 P a j l) (λ g. let e : 1 ≡ j = omega ar
 at_2 : (P : ℕ → Type 0) → P 0 → P 1 → P 2 → (j : ℕ) → j < 3 → P j
 at_2 P a b c j h = ⊎_elim (λ l. at_1 P a b j l) (λ g. let e : 2 ≡ j = omega arith in subst P e c) (cases_lt j 2)
 
-operands_named : (k : Kind) (fs : List (List ℕ)) → All Named (named_fields (form_with k fs)) → OperandsNamed k fs
+operands_named : (k : Kind) (fs : List (List ℕ)) → AllByRecursion Named (named_fields (form_with k fs)) → OperandsNamed k fs
 operands_named True fs a = λ j h. absurd (omega arith)
 operands_named Prop fs a = at_0 (λ j. Named (get_or fs (3 + j) [])) a.1.0
 operands_named Not fs a = at_0 (λ j. Named (get_or fs (3 + j) [])) a.1.0
@@ -119,7 +119,7 @@ operands_named Or fs a = at_1 (λ j. Named (get_or fs (3 + j) [])) a.1.0 a.1.1.0
 operands_named Next fs a = at_1 (λ j. Named (get_or fs (3 + j) [])) a.1.0 a.1.1.0
 operands_named Until fs a = at_2 (λ j. Named (get_or fs (3 + j) [])) a.1.0 a.1.1.0 a.1.1.1.0
 
-all_named : (k : Kind) (fs : List (List ℕ)) → Named (get_or fs 1 []) → OperandsNamed k fs → All Named (named_fields (form_with k fs))
+all_named : (k : Kind) (fs : List (List ℕ)) → Named (get_or fs 1 []) → OperandsNamed k fs → AllByRecursion Named (named_fields (form_with k fs))
 all_named True fs n a = (n, tt)
 all_named Prop fs n a = (n, (a 0 (omega arith), tt))
 all_named Not fs n a = (n, (a 0 (omega arith), tt))

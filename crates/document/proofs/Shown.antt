@@ -1,6 +1,6 @@
 -- The one reading that the fields of a line leave.
 use Rattle.std.proofs.Common.{◌≡◌, ℕ, ◌+◌, cond, eqb, List, [], length, get_or, codes, sym, refl, ap, ◌∙◌, subst}
-use Rattle.std.specs.List.{AllByRecursion as All}
+use Rattle.std.specs.List.{AllByRecursion}
 use Rattle.program.specs.Names.{Named}
 use Rattle.document.specs.Kinds.{word_of, form_with}
 use Rattle.document.specs.Lines.{Declarations, Line, act_line, prop_line, goal_line, prog_line, true_form, prop_form, not_form, and_form, or_form, next_form, until_form, shown, named_fields, ReadsAs, Faulty, shape}
@@ -73,5 +73,5 @@ module _ (d : Declarations) (bytes : List ℕ) (x : Line) (is : reading (fields 
   pub wrong_count : (length (fields bytes) ≡ length (shown x) → ⊥) → Faulty d bytes 2 0
   wrong_count ne = shape (λ y r. ne (ap length (r.0 ∙ ap shown (only bytes y r ∙ is))))
 
-  pub wrong_name : (All Named (named_fields x) → ⊥) → Faulty d bytes 2 0
-  wrong_name un = shape (λ y r. un (subst (λ z. All Named (named_fields z)) (only bytes y r ∙ is) r.1))
+  pub wrong_name : (AllByRecursion Named (named_fields x) → ⊥) → Faulty d bytes 2 0
+  wrong_name un = shape (λ y r. un (subst (λ z. AllByRecursion Named (named_fields z)) (only bytes y r ∙ is) r.1))

@@ -1,6 +1,6 @@
 -- What the lines of a document say.
 use Rattle.std.specs.Prelude.{◌≡◌, ℕ, ◌<◌, ◌≤◌, List, [], ◌∷◌, ◌++◌, length, codes}
-use Rattle.std.specs.List.{AllByRecursion as All}
+use Rattle.std.specs.List.{AllByRecursion}
 use Rattle.program.specs.Words.{Program}
 use Rattle.program.specs.Automata.{names}
 use Rattle.program.specs.Names.{Named, Number, Missing}
@@ -66,7 +66,7 @@ named_fields (until_form n f p g) = n ∷ f ∷ p ∷ g ∷ []
 
 -- the bytes of a line, without its line feed, are such a line
 abbrev pub ReadsAs : List ℕ → Line → Type 0
-ReadsAs bytes x = (fields bytes ≡ shown x) × All Named (named_fields x)
+ReadsAs bytes x = (fields bytes ≡ shown x) × AllByRecursion Named (named_fields x)
 
 -- the name is new in its kind
 abbrev pub New : List (List ℕ) → List ℕ → Type 0

@@ -1,7 +1,7 @@
 -- The table that is made of a program's row is the program's automaton.
 use Rattle.std.proofs.Common.{◌≡◌, ℕ, zero, suc, ◌+◌, ◌-◌, ◌^◌, ◌<◌, ◌≤◌, true, false, ◌⊎◌, ◌↔◌, List, [], ◌∷◌, length, get_or, sym, refl, ap, ◌∙◌, subst, inl, inr, ⊎_elim, arith}
 use lib.Bits.{bit_and, bit_or, mask_lt}
-use Rattle.std.specs.List.{AllByRecursion as All}
+use Rattle.std.specs.List.{AllByRecursion}
 use Rattle.std.proofs.lemmas.Nat.{pow_below}
 use Rattle.std.proofs.lemmas.List.{get_or_past}
 use Rattle.std.proofs.lemmas.Bool.{cases_lt, both_ways}
@@ -123,7 +123,7 @@ module _ {row : Row} {states : ℕ} {next : List (List ℕ)} {named : List ℕ} 
 
 -- the table of an automaton accepts exactly its program's words
 module _ (p : Program) (states : ℕ) (next : List (List ℕ)) (finals : ℕ) (is : AutomatonOf p states next finals) where
-  accepted : (w : List ℕ) → All (λ c. c < 16) w → (q : ℕ) → Accepted next finals q w ↔ Accepts p q w
+  accepted : (w : List ℕ) → AllByRecursion (λ c. c < 16) w → (q : ℕ) → Accepted next finals q w ↔ Accepts p q w
   accepted [] h q = is.ends q
   accepted (c ∷ w) h q = (
     λ a. (a.0, (is.leads q c a.0 h.0).0 a.1, (accepted w h.1 a.0).0 a.2),

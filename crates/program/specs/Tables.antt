@@ -1,6 +1,6 @@
 -- The automaton of a program as a table of masks, over actions below 16.
 use Rattle.std.specs.Prelude.{◌≡◌, ℕ, ◌+◌, ◌<◌, ◌↔◌, List, [], ◌∷◌, length}
-use Rattle.std.specs.List.{AllByRecursion as All}
+use Rattle.std.specs.List.{AllByRecursion}
 use Rattle.program.specs.Words.{Program, Words}
 use Rattle.program.specs.Automata.{names, Leads, Final}
 use Rattle.program.specs.Masks.{Bit, cell}
@@ -18,4 +18,4 @@ Accepted next finals q (c ∷ w) = (n : ℕ) × Bit (cell next q c) n × Accepte
 
 -- from state 0 it accepts exactly the program's words
 abbrev pub AcceptsWordsOf : Program → List (List ℕ) → ℕ → Type 0
-AcceptsWordsOf p next finals = (w : List ℕ) → All (λ c. c < 16) w → Accepted next finals 0 w ↔ Words p w
+AcceptsWordsOf p next finals = (w : List ℕ) → AllByRecursion (λ c. c < 16) w → Accepted next finals 0 w ↔ Words p w

@@ -1,17 +1,16 @@
 -- Targets chosen one by one along the numbers, and a target for each claim T step.
-use Rattle.std.proofs.Common.{◌≡◌, ℕ, zero, suc, ◌+◌, ◌<◌, ◌≤◌, Bool, true, false, cond, ◌||◌, eqb, ◌⊎◌, ◌↔◌, List, [], ◌∷◌, sym, refl, ap, ◌∙◌, subst, inl, inr, arith}
-use native.Mathlib.Decide.{ℕ_discrete}
+use Rattle.std.proofs.Common.{◌≡◌, ℕ, zero, suc, ◌+◌, ◌<◌, ◌≤◌, Bool, true, false, cond, eqb, ◌↔◌, List, [], ◌∷◌, sym, refl, ap, ◌∙◌, subst, inl, inr, arith}
 use Rattle.std.proofs.lemmas.Bool.{both_ways, eqb-true, eq-eqb, ne_eqb, or_cases, or_left, or_right, cases_order, cases_eq, cases_Bool, cond-true, cond-false}
 use Rattle.program.specs.Automata.{Leads}
 use Rattle.document.specs.Documents.{Document, WellFormed, form_at}
 use Rattle.tableau.specs.Claims.{member, has}
-use Rattle.tableau.specs.Graphs.{Sign, Claim, form, until_true, until_false, step_true, step_false, program_of}
-use Rattle.tableau.specs.Numbers.{number_of, ClaimOf}
+use Rattle.tableau.specs.Graphs.{Claim, form, until_true, until_false, step_true, step_false, program_of}
+use Rattle.tableau.specs.Numbers.{number_of}
 use Rattle.tableau.specs.Successions.{Claims, NoStep, Chosen, none, one}
 use Rattle.tableau.specs.declared.node.Node.{Node}
 use Rattle.tableau.proofs.Numbering.{number_within, step_one}
-use Rattle.tableau.proofs.Decoding.{claims_told, claims_tell, claim_numbered, claim_numbered_is, claim_told}
-use Rattle.tableau.specs.Held.{claims_of, is_claim}
+use Rattle.tableau.proofs.Decoding.{claims_told, claims_tell, claim_numbered, claim_numbered_is}
+use Rattle.tableau.specs.Held.{claims_of}
 
 -- the node claims the step
 abbrev Steps : Document → Node → ℕ → ℕ → ℕ → Type 0

@@ -1,12 +1,11 @@
 -- Expansions of numbers and expansions of claims are the same.
-use Rattle.std.proofs.Common.{◌≡◌, ℕ, Bool, true, false, ◌⊎◌, ◌↔◌, List, sym, refl, ap, ◌∙◌, subst, inl, inr}
-use Rattle.document.specs.Documents.{Document, WellFormed, form_at}
-use Rattle.document.specs.declared.form.Form.TheVariants.{True, Prop, Next}
+use Rattle.std.proofs.Common.{◌≡◌, ℕ, Bool, true, ◌↔◌, List, sym, refl, ap, ◌∙◌, subst, inl, inr}
+use Rattle.document.specs.Documents.{Document, WellFormed}
 use Rattle.tableau.specs.Calculus.{calculus, Against, Fine}
 use Rattle.tableau.specs.Claims.{has}
 use Rattle.tableau.specs.Expansions as walk
 use Rattle.tableau.specs.Expansions.{from_start, from_claim}
-use Rattle.tableau.specs.Graphs.{Sign, Sign.T, Sign.F, Claim, form, until_true, until_false, step_true, step_false, Gives, Closure, Closure.given, Closure.made, NoClash, Expansion}
+use Rattle.tableau.specs.Graphs.{Sign.T, Sign.F, Claim, form, until_true, until_false, step_true, step_false, Gives, Closure, Closure.given, Closure.made, NoClash, Expansion}
 use Rattle.tableau.specs.Held.{claims_of}
 use Rattle.tableau.specs.Numbers.{number_of, ClaimOf}
 use Rattle.tableau.specs.Successions.{Allowed}
@@ -56,7 +55,7 @@ fine_claims d x a N fine allowed =
 
 against_clash : (d : Document) (a : ℕ) (M : Claim → Bool) → NoClash d a M → (k j : Claim) → M k ≡ true → M j ≡ true → Against d k j → ⊥
 against_clash d a M none (form T e) (form T h) i j w = w
-against_clash d a M none (form T e) (form F h) i j (inl w) = none.same-form e i (subst (λ v. M (form F v) ≡ true) (sym w) j)
+against_clash d a M none (form T e) (form F h) i j (inl w) = none.same_form e i (subst (λ v. M (form F v) ≡ true) (sym w) j)
 against_clash d a M none (form T e) (form F h) i j (inr (p, s, t)) = none.same_mark e h p i j s t
 against_clash d a M none (form T e) (until_true h q l) i j w = w
 against_clash d a M none (form T e) (until_false h q) i j w = w

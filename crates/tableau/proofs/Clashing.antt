@@ -1,12 +1,12 @@
 -- When a claim clashes with one of a set.
-use Rattle.std.proofs.Common.{◌≡◌, ℕ, zero, suc, ◌<◌, Bool, true, false, cond, not, ◌||◌, ◌⊎◌, ◌↔◌, Decides, sym, refl, ap, ◌∙◌, subst, inl, inr, arith}
+use Rattle.std.proofs.Common.{◌≡◌, ℕ, zero, suc, ◌<◌, Bool, true, false, cond, not, ◌||◌, ◌⊎◌, Decides, sym, refl, ap, ◌∙◌, subst, inl, inr, arith}
 use Rattle.std.proofs.lemmas.Bool.{both_ways, or_cases, or_left, or_right}
 use Rattle.document.specs.Documents.{Document, form_at}
 use Rattle.document.specs.declared.form.Form.{Form}
-use Rattle.document.specs.declared.form.Form.TheVariants.{True, Prop, Not, And, Or, Next, Until}
-use Rattle.tableau.specs.Calculus.{Against, ClashesWith}
-use Rattle.tableau.specs.Graphs.{Sign, Sign.T, Sign.F, Claim, form, until_true, until_false, step_true, step_false}
-use Rattle.tableau.specs.Numbers.{number_of, ClaimOf, StateOf, is_until}
+use Rattle.document.specs.declared.form.Form.TheVariants.{True, Prop}
+use Rattle.tableau.specs.Calculus.{ClashesWith}
+use Rattle.tableau.specs.Graphs.{Sign, Sign.T, Sign.F, form, until_true, until_false, step_true, step_false}
+use Rattle.tableau.specs.Numbers.{number_of, ClaimOf}
 use Rattle.tableau.specs.Successions.{Claims}
 
 -- the propositions of two forms

@@ -1,8 +1,8 @@
 -- The claim of a number, and the sets of claims and of numbers that belong together.
-use Rattle.std.proofs.Common.{◌≡◌, ℕ, zero, suc, ◌+◌, ◌-◌, ◌*◌, ◌/◌, ◌%◌, ◌<◌, ◌≤◌, Bool, true, false, cond, not, ◌&&◌, eqb, ltb, leb, ◌⊎◌, ◌↔◌, length, sym, refl, ap, ◌∙◌, subst, inl, inr, arith}
-use Rattle.std.proofs.lemmas.Bool.{both_ways, and_parts, and_from, ltb-true, lt-ltb, leb-true, leb-false, not_true, not_from_false, eqb-true, eq-eqb, cond_both, cases_order}
-use Rattle.document.specs.Documents.{Document, form_at, weight_of}
-use Rattle.tableau.specs.Graphs.{Sign, Sign.T, Sign.F, Claim, form, until_true, until_false, step_true, step_false}
+use Rattle.std.proofs.Common.{◌≡◌, ℕ, zero, suc, ◌-◌, ◌<◌, ◌≤◌, Bool, true, false, cond, not, ◌&&◌, eqb, ltb, leb, length, sym, refl, ap, ◌∙◌, subst, inl, inr, arith}
+use Rattle.std.proofs.lemmas.Bool.{and_parts, and_from, ltb-true, lt-ltb, leb-true, leb-false, not-true, not_from_false, eqb-true, eq-eqb, cond_both, cases_order}
+use Rattle.document.specs.Documents.{Document, form_at}
+use Rattle.tableau.specs.Graphs.{Claim, form, until_true, until_false, step_true, step_false}
 use Rattle.tableau.specs.Held.{has_state, is_claim, claims_of}
 use Rattle.tableau.specs.Numbers.{is_until, base, states, speaks_of, place_in, number_of, StateOf, ClaimOf}
 use Rattle.tableau.proofs.Numbering.{base_apart, place_within, speaks_there, decoded, decoded_place, one_number}
@@ -18,7 +18,7 @@ state_tells : (d : Document) (e q : ℕ) → StateOf d e q → has_state d e q �
 state_tells d e q s = and_from (ltb e (length d.forms)) (is_until (form_at d e) && ltb q (states d e)) (lt-ltb e (length d.forms) s.there) (and_from (is_until (form_at d e)) (ltb q (states d e)) s.fated (lt-ltb q (states d e) s.known))
 
 pub claim_told : (d : Document) (k : Claim) → is_claim d k ≡ true → ClaimOf d k
-claim_told d (form s e) h = let a = and_parts (ltb e (length d.forms)) (not (is_until (form_at d e))) h in (ltb-true e (length d.forms) a.0, not_true (is_until (form_at d e)) a.1)
+claim_told d (form s e) h = let a = and_parts (ltb e (length d.forms)) (not (is_until (form_at d e))) h in (ltb-true e (length d.forms) a.0, not-true (is_until (form_at d e)) a.1)
 claim_told d (until_true e q l) h = let a = and_parts (has_state d e q) (ltb l 2) h in (state_told d e q a.0, ltb-true l 2 a.1)
 claim_told d (until_false e q) h = state_told d e q h
 claim_told d (step_true e q l) h = let a = and_parts (has_state d e q) (ltb l 2) h in (state_told d e q a.0, ltb-true l 2 a.1)

@@ -1,5 +1,5 @@
 -- What a part of a unit enters, put together from its parts.
-use Rattle.std.proofs.Common.{◌≡◌, ℕ, zero, suc, ◌+◌, ◌/◌, ◌^◌, ◌<◌, ◌≤◌, Bool, true, false, ◌⊎◌, ◌↔◌, List, [], ◌∷◌, length, get_or, set, Some, None, Option, sym, refl, ap, ◌∙◌, subst, inl, inr, ⊎_elim, arith, MatchOption}
+use Rattle.std.proofs.Common.{◌≡◌, ℕ, ◌+◌, ◌/◌, ◌^◌, ◌<◌, ◌≤◌, Bool, true, false, ◌⊎◌, ◌↔◌, List, length, Some, None, Option, sym, refl, ap, ◌∙◌, subst, inl, inr, arith, MatchOption}
 use lib.Bits.{bit_and}
 use Rattle.std.proofs.lemmas.Bool.{cases_lt}
 use Rattle.std.proofs.lemmas.List.{get_or-set_same, get_or-set_other, length-set}
@@ -8,10 +8,10 @@ use Rattle.program.proofs.Bits.{bit_read}
 use Rattle.document.specs.Documents.{Document}
 use Rattle.document.specs.declared.declared.Declared.{Declared}
 use Rattle.tableau.specs.Claims.{member, Same}
-use Rattle.tableau.specs.Entered.{Known, Placed, Unplaced, Linked, Linking, Unlinked, Due, Apart, ApartEdges, EdgeTo, NoEdgeTo, NewEdges, NewNode, Entering, There, Entered, NoNode, NoEdge, Over, Enters, The, Begun, Ready, EntersNode}
+use Rattle.tableau.specs.Entered.{Known, Placed, Unplaced, Linked, Linking, Unlinked, Due, Apart, ApartEdges, EdgeTo, NewEdges, NewNode, Entering, There, Entered, NoNode, NoEdge, Over, Enters, The, Begun, Ready, EntersNode}
 use Rattle.tableau.specs.Graphs.{Claim, Sign.T, Sign.F}
 use Rattle.tableau.specs.Nodes.{SameNode, node_at, edge_at}
-use Rattle.tableau.specs.Successions.{Claims, Allowed, Promises, Tells, Closes, Made, Marked}
+use Rattle.tableau.specs.Successions.{Claims, Allowed, Promises, Tells, Closes, Made}
 use Rattle.tableau.specs.declared.claims.ClaimSet.{ClaimSet}
 use Rattle.tableau.specs.declared.node.Node.{Node}
 use Rattle.tableau.specs.declared.node.Edge.{Edge}

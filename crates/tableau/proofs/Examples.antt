@@ -1,8 +1,8 @@
 -- A worked example: a form and its own negation have no first node.
-use Rattle.std.proofs.Common.{◌≡◌, ℕ, Bool, true, List, [], ◌∷◌, refl, inl, inr}
+use Rattle.std.proofs.Common.{◌≡◌, [], ◌∷◌, refl, inl, inr}
 use Rattle.document.specs.Documents.{Document}
 use Rattle.document.specs.declared.form.Form.TheVariants.{Prop, Not, And}
-use Rattle.tableau.specs.Graphs.{Node, Claim, form, T, F, Closure, given, made, says, FirstNode}
+use Rattle.tableau.specs.Graphs.{Node, Claim, form, T, F, Closure, given, made, FirstNode}
 
 -- prop 0, its negation, and both
 absurd_goal : Document
@@ -18,4 +18,4 @@ no_first_node n f =
     let first : Closure absurd_goal 0 choice S (form T 0) = made both (inl refl) in
     let second : Closure absurd_goal 0 choice S (form T 1) = made both (inr refl) in
     let against : Closure absurd_goal 0 choice S (form F 0) = made second refl in
-    e.no_clash.same-form 0 (e.holds (form T 0) first) (e.holds (form F 0) against)
+    e.no_clash.same_form 0 (e.holds (form T 0) first) (e.holds (form F 0) against)

@@ -1,5 +1,5 @@
 -- What is reached from the first claims, and what is led to, are their expansions.
-use Rattle.std.proofs.Common.{◌≡◌, ℕ, ◌-◌, ◌<◌, Bool, true, false, cond, eqb, List, [], ◌∷◌, ◌++◌, set, Some, None, Option, sym, refl, ap, ◌∙◌, subst, arith}
+use Rattle.std.proofs.Common.{◌≡◌, ℕ, ◌-◌, ◌<◌, Bool, true, false, cond, eqb, List, [], ◌∷◌, ◌++◌, set, Some, None, sym, refl, ◌∙◌, subst, arith}
 use Rattle.document.specs.Documents.{Document}
 use Rattle.document.specs.declared.declared.Declared.{Declared}
 use Rattle.tableau.specs.Calculus.{calculus}
@@ -9,7 +9,6 @@ use Rattle.tableau.specs.Graphs.{Sign.T, says}
 use Rattle.tableau.specs.Nodes.{node_at}
 use Rattle.tableau.specs.Numbers.{number_of, Shows}
 use Rattle.tableau.specs.Units.{Succeeding, Heading, NextSet, EntersFirst, EntersSuccessors, FirstUnit, NextUnit, next_phase, with_edges}
-use Rattle.tableau.specs.Walk.{grown}
 use Rattle.tableau.specs.declared.grow.Grown.{Grown}
 use Rattle.tableau.specs.declared.node.Node.{Node}
 use Rattle.tableau.specs.declared.node.Edge.{Edge}

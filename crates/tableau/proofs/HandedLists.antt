@@ -1,5 +1,5 @@
 -- What a node hands on can be listed.
-use Rattle.std.proofs.Common.{◌≡◌, ℕ, suc, ◌<◌, Bool, true, false, ◌||◌, eqb, ◌⊎◌, ◌↔◌, List, [], ◌∷◌, length, sym, refl, ap, ◌∙◌, subst, inl, inr, arith}
+use Rattle.std.proofs.Common.{◌≡◌, ℕ, suc, ◌<◌, Bool, true, false, eqb, ◌⊎◌, ◌↔◌, List, [], ◌∷◌, length, sym, refl, ap, ◌∙◌, subst, inl, inr, arith}
 use native.Mathlib.Decide.{ℕ_discrete, dec_lt}
 use Rattle.std.proofs.lemmas.Bool.{both_ways, cases_Bool, eqb-true, eq-eqb, or_cases, or_left, or_right}
 use Rattle.program.specs.Automata.{Leads, names}
@@ -10,7 +10,7 @@ use Rattle.document.specs.declared.form.Form.TheVariants.{True, Prop, Not, And, 
 use Rattle.tableau.specs.Claims.{member, has}
 use Rattle.tableau.specs.Graphs.{Sign, Sign.T, Sign.F, Claim, form, until_false, step_false, says, program_of}
 use Rattle.tableau.specs.Held.{claims_of}
-use Rattle.tableau.specs.Numbers.{states, number_of, ClaimOf}
+use Rattle.tableau.specs.Numbers.{states, number_of}
 use Rattle.tableau.specs.Successions.{Claims, Handed, Handed.nexts, Handed.fails}
 use Rattle.tableau.specs.Units.{ListsHanded}
 use Rattle.tableau.specs.declared.node.Node.{Node}

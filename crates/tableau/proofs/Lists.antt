@@ -1,8 +1,8 @@
 -- Lists of claims: what they have, how they grow, and that no claim stands twice.
-use Rattle.std.proofs.Common.{◌≡◌, ℕ, zero, suc, ◌+◌, ◌-◌, ◌<◌, ◌≤◌, Bool, true, false, cond, ◌||◌, eqb, ltb, ◌⊎◌, List, [], ◌∷◌, ◌++◌, length, get_or, take, sym, refl, ap, ◌∙◌, subst, inl, inr, ⊎_elim, arith}
-use mathlib.Core.Bool.{or-false, or_true, or_assoc}
-use Rattle.std.proofs.lemmas.Bool.{cases_eq, cases_lt, cases_Bool, eq-eqb, ne_eqb, eqb-true, eqb-false, lt-ltb, le-ltb, both_ways, or_cases, or_left, or_right, or_parts, or_from}
-use Rattle.std.proofs.lemmas.List.{append-nil, append_assoc, take_at, take-append-le, get_or_append_left, get_or_at, length-append, length_push, get_or-take, length-take-le, get_or_push, take_all}
+use Rattle.std.proofs.Common.{◌≡◌, ℕ, zero, suc, ◌+◌, ◌<◌, Bool, true, false, cond, ◌||◌, eqb, ltb, ◌⊎◌, List, [], ◌∷◌, ◌++◌, length, get_or, take, sym, refl, ap, ◌∙◌, subst, inl, inr, arith}
+use mathlib.Core.Bool.{or-false, or_assoc}
+use Rattle.std.proofs.lemmas.Bool.{cases_eq, cases_lt, eq-eqb, ne_eqb, eqb-true, lt-ltb, le-ltb, both_ways, or_cases, or_left, or_right}
+use Rattle.std.proofs.lemmas.List.{append-nil, append_assoc, take_at, take-append-le, get_or_append_left, length_push, get_or-take, length-take-le, get_or_push}
 use Rattle.tableau.specs.Claims.{has}
 use Rattle.tableau.specs.Walk.{grown, room, Fresh}
 

@@ -1,14 +1,11 @@
 -- Nodes made of the sets that a unit reaches are the nodes that the definitions have, and all of these are made.
-use Rattle.std.proofs.Common.{◌≡◌, ℕ, zero, suc, ◌+◌, ◌-◌, ◌<◌, ◌≤◌, Bool, true, false, cond, ◌&&◌, ◌||◌, eqb, ◌⊎◌, ◌↔◌, List, [], ◌∷◌, ◌++◌, length, sym, refl, ap, ◌∙◌, subst, inl, inr, arith}
+use Rattle.std.proofs.Common.{◌≡◌, ℕ, ◌-◌, ◌<◌, Bool, true, false, cond, eqb, ◌⊎◌, ◌↔◌, List, [], ◌∷◌, ◌++◌, sym, refl, ap, ◌∙◌, subst, inl, inr, arith}
 use mathlib.Core.Path.{fun_ext}
-use Rattle.std.proofs.lemmas.Bool.{both_ways, eqb-true, eq-eqb, or_cases, or_left, or_right, cases_Bool, cond-true, cond-false}
-use Rattle.program.specs.Automata.{Leads}
-use Rattle.document.specs.Documents.{Document, WellFormed, Refers, form_at}
-use Rattle.document.specs.declared.form.Form.{Form}
+use Rattle.std.proofs.lemmas.Bool.{both_ways, eqb-true, eq-eqb, or_cases, or_left, or_right}
+use Rattle.document.specs.Documents.{Document, WellFormed, Refers}
 use Rattle.document.specs.declared.form.Form.TheVariants.{Next}
-use Rattle.tableau.specs.Calculus.{calculus}
 use Rattle.tableau.specs.Claims.{member, has, Same}
-use Rattle.tableau.specs.Graphs.{Sign, Sign.T, Sign.F, Claim, form, until_true, until_false, step_true, step_false, says, program_of, Node, FirstNode, turned, Carried, Carried.nexts, Carried.goes, Carried.fails, Successor, Expansion}
+use Rattle.tableau.specs.Graphs.{Sign.T, Claim, form, until_true, until_false, step_true, step_false, says, Node, FirstNode, turned, Carried, Carried.nexts, Carried.goes, Carried.fails, Successor, Expansion}
 use Rattle.tableau.specs.Held.{claims_of, node_of}
 use Rattle.tableau.specs.Numbers.{number_of, ClaimOf}
 use Rattle.tableau.specs.Successions.{Claims, Promises, Closes, Made, Handed, Handed.nexts as handed-next, Handed.fails as handed-fails, Chosen}
@@ -19,8 +16,7 @@ use Rattle.tableau.specs.declared.unit.Origin.{Origin}
 use Rattle.tableau.specs.declared.unit.Origin.TheVariants.{First, Opened}
 use Rattle.tableau.proofs.Bridge.{ListsSet, closure_numbered, expansion_claims, expansion_numbers}
 use Rattle.tableau.proofs.Aims.{Aims, ListsTargets, chosen_targets, targets_chosen}
-use Rattle.tableau.proofs.Decoding.{claims_told, claims_tell, numbers_of, numbers_told, numbers_tell, claims_back}
-use Rattle.tableau.proofs.Numbering.{one_number}
+use Rattle.tableau.proofs.Decoding.{claims_told, claims_tell, numbers_of, claims_back}
 use Rattle.tableau.proofs.Own.{says_own, closure_own, leads_own}
 use Rattle.tableau.proofs.HandedLists.{handed_listed}
 

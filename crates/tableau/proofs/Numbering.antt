@@ -1,6 +1,6 @@
 -- Claims of a document and their numbers are one to one.
-use Rattle.std.proofs.Common.{◌≡◌, ℕ, zero, suc, ◌+◌, ◌-◌, ◌*◌, ◌/◌, ◌%◌, ◌<◌, ◌≤◌, Bool, true, false, cond, eqb, ltb, ◌⊎◌, List, [], ◌∷◌, length, get_or, take, sym, refl, ap, ◌∙◌, subst, inl, inr, mod-eq_of_lt, div-add-mod', arith}
-use Rattle.program.specs.Words.{Program, act}
+use Rattle.std.proofs.Common.{◌≡◌, ℕ, zero, suc, ◌+◌, ◌-◌, ◌*◌, ◌/◌, ◌%◌, ◌<◌, ◌≤◌, true, false, cond, eqb, ltb, List, [], ◌∷◌, length, get_or, take, sym, refl, ap, ◌∙◌, subst, inl, inr, mod-eq_of_lt, div-add-mod', arith}
+use Rattle.program.specs.Words.{Program}
 use Rattle.program.specs.Automata.{names}
 use Rattle.program.specs.Rows.{RowOf}
 use Rattle.program.specs.RowStates.{states_in}
@@ -13,7 +13,7 @@ use Rattle.document.specs.declared.form.Form.TheVariants.{True, Prop, Not, And, 
 use Rattle.std.proofs.lemmas.Bool.{both_ways, cond_both, lt-ltb, cases_lt}
 use lib.Arith.{digits_div, digits_mod}
 use Rattle.std.proofs.lemmas.Nat.{div_below, mod_below}
-use Rattle.tableau.specs.Graphs.{Sign, Sign.T, Sign.F, Claim, form, until_true, until_false, step_true, step_false, program_of}
+use Rattle.tableau.specs.Graphs.{Sign.T, Sign.F, Claim, form, until_true, until_false, step_true, step_false, program_of}
 use Rattle.tableau.specs.Numbers.{is_until, base, states, speaks_of, place_in, number_of, StateOf, ClaimOf, ClaimAt, Shows}
 
 -- one form more

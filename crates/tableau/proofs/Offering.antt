@@ -7,7 +7,6 @@ use Rattle.tableau.specs.Claims.{has}
 use Rattle.tableau.specs.Graphs.{Claim, Gives}
 use Rattle.tableau.specs.Numbers.{number_of, ClaimOf}
 use Rattle.tableau.specs.Offers.{listed}
-use Rattle.tableau.specs.declared.rules.Few.{Few}
 use Rattle.tableau.specs.declared.rules.Alternatives.{Alternatives}
 use Rattle.tableau.specs.declared.rules.Alternatives.TheVariants.{Nothing, One, Two}
 use Rattle.tableau.proofs.Numbering.{one_number}

@@ -1,12 +1,12 @@
 -- What the claims of a document give and hand on are claims of the document.
-use Rattle.std.proofs.Common.{◌≡◌, ℕ, zero, suc, ◌+◌, ◌-◌, ◌<◌, ◌≤◌, Bool, true, false, cond, ◌⊎◌, length, sym, refl, ap, ◌∙◌, subst, inl, inr, arith}
-use Rattle.program.specs.Automata.{Leads, names}
+use Rattle.std.proofs.Common.{◌≡◌, ℕ, ◌<◌, ◌≤◌, Bool, true, false, cond, length, sym, refl, ap, subst, inl, inr, arith}
+use Rattle.program.specs.Automata.{Leads}
 use Rattle.program.proofs.States.{leads_to}
 use Rattle.document.specs.Documents.{Document, WellFormed, Refers, form_at}
 use Rattle.document.specs.declared.form.Form.{Form}
 use Rattle.document.specs.declared.form.Form.TheVariants.{True, Prop, Not, And, Or, Next, Until}
 use Rattle.tableau.specs.Graphs.{Sign, Sign.T, Sign.F, opposite, Claim, form, until_true, until_false, step_true, step_false, claim_as, says, program_of, GivesForm, GivesUntil, GivesNotUntil, Gives, Closure, Closure.given, Closure.made}
-use Rattle.tableau.specs.Numbers.{is_until, states, StateOf, ClaimOf}
+use Rattle.tableau.specs.Numbers.{is_until, StateOf, ClaimOf}
 
 -- the claim that a form is true or false
 says_form : (d : Document) (x e : ℕ) (s : Sign) (f : Form) → e < length d.forms → form_at d e ≡ f → ClaimOf d (claim_as s x e f)

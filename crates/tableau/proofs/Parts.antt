@@ -1,5 +1,5 @@
 -- What a node hands on, form by form.
-use Rattle.std.proofs.Common.{◌≡◌, ℕ, ◌<◌, Bool, true, false, ◌⊎◌, ◌↔◌, List, length, sym, refl, ap, ◌∙◌, subst, inl, inr, arith}
+use Rattle.std.proofs.Common.{◌≡◌, ℕ, ◌<◌, Bool, true, false, ◌⊎◌, ◌↔◌, length, sym, refl, ap, ◌∙◌, subst, inl, inr, arith}
 use Rattle.std.proofs.lemmas.Bool.{both_ways}
 use Rattle.document.specs.Documents.{Document, WellFormed, Refers, form_at}
 use Rattle.document.specs.Forms.{form_in}
@@ -7,7 +7,7 @@ use Rattle.document.specs.declared.declared.Declared.{Declared}
 use Rattle.document.specs.declared.form.Form.{Form}
 use Rattle.document.specs.declared.form.Form.TheVariants.{True, Prop, Not, And, Or, Next, Until}
 use Rattle.tableau.specs.Claims.{member}
-use Rattle.tableau.specs.Graphs.{Sign, Sign.T, Sign.F, form, until_false, says}
+use Rattle.tableau.specs.Graphs.{Sign, Sign.T, Sign.F, form, says}
 use Rattle.tableau.specs.Handing.{Any, From, Operand, By}
 use Rattle.tableau.specs.Numbers.{number_of, is_until, ClaimOf, Shows}
 use Rattle.tableau.specs.Successions.{Handed, nexts, fails}

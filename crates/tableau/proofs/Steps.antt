@@ -1,9 +1,9 @@
 -- What one turn of the loop and one call of the walk keep of the trail.
-use Rattle.std.proofs.Common.{◌≡◌, ℕ, zero, suc, ◌+◌, ◌-◌, ◌<◌, ◌≤◌, Bool, true, false, cond, ◌||◌, eqb, ltb, List, [], ◌∷◌, ◌++◌, length, get_or, take, set, sym, refl, ap, ◌∙◌, subst, arith}
+use Rattle.std.proofs.Common.{◌≡◌, ℕ, ◌+◌, ◌<◌, ◌≤◌, true, false, cond, ◌||◌, eqb, ltb, List, [], ◌∷◌, ◌++◌, length, get_or, take, set, sym, refl, ap, ◌∙◌, subst, arith}
 use Rattle.std.proofs.lemmas.Bool.{lt-ltb, cond-false, cond-true}
 use Rattle.std.proofs.lemmas.List.{take_more, take_more_set, take-take, length_push, take-set-le}
 use Rattle.tableau.specs.Claims.{member, has}
-use Rattle.tableau.specs.Walk.{grown, room, on, Stands}
+use Rattle.tableau.specs.Walk.{grown, on, Stands}
 use Rattle.tableau.specs.declared.claims.ClaimSet.{ClaimSet}
 use Rattle.tableau.specs.declared.trail.Trail.{Trail}
 use Rattle.tableau.proofs.Lists.{has_push, grown_push, fresh_none, fresh_push, room_push, room_none}

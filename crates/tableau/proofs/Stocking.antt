@@ -1,21 +1,19 @@
 -- Units in memory are units of the definitions: what the tables hold after one more unit, and when it does not fit.
-use Rattle.std.proofs.Common.{◌≡◌, ℕ, zero, suc, ◌+◌, ◌-◌, ◌<◌, ◌≤◌, min, Bool, true, false, cond, eqb, ◌⊎◌, List, [], ◌∷◌, ◌++◌, map, length, get_or, take, set, sym, refl, ap, ◌∙◌, subst, inl, inr, arith}
-use native.Mathlib.Nat.{min-le_left, min-le_right}
+use Rattle.std.proofs.Common.{◌≡◌, ℕ, zero, suc, ◌+◌, ◌-◌, ◌<◌, ◌≤◌, Bool, true, false, cond, eqb, List, [], ◌++◌, length, get_or, set, sym, refl, ap, ◌∙◌, subst, inl, inr, arith}
 use Rattle.std.specs.List.{ContainsAt as Has}
-use Rattle.std.proofs.lemmas.List.{length-append, length-set, get_or-set_same, get_or-set_other, get_or_default}
-use Rattle.std.proofs.lemmas.Bool.{both_ways, cases_lt, cases_eq, cond_both}
+use Rattle.std.proofs.lemmas.List.{length-set, get_or-set_same, get_or-set_other}
+use Rattle.std.proofs.lemmas.Bool.{cases_lt, cases_eq, cond_both}
 use Rattle.document.specs.Documents.{Document, WellFormed}
-use Rattle.tableau.specs.Claims.{member, Same}
-use Rattle.tableau.specs.Entered.{Known, Due, Apart, ApartEdges, Linked, NewNode, NewEdges, Entering, There, Entered, NoNode, NoEdge, Over}
-use Rattle.tableau.specs.Graphs.{Claim, FirstNode, turned, Successor, Lists, Tables, Opens}
+use Rattle.tableau.specs.Claims.{member}
+use Rattle.tableau.specs.Entered.{Due, Apart, Linked, NewNode, Entered}
+use Rattle.tableau.specs.Graphs.{Claim, FirstNode, turned, Successor, Lists, Opens}
 use Rattle.tableau.specs.Graphs.{Node as Defined}
-use Rattle.tableau.specs.Held.{claims_of, node_of, edge_of, tables_of}
+use Rattle.tableau.specs.Held.{node_of, edge_of, tables_of}
 use Rattle.tableau.specs.Nodes.{SameNode, node_at, edge_at}
 use Rattle.tableau.specs.Numbers.{number_of, ClaimOf}
 use Rattle.tableau.specs.Stock.{InOrder, Indexed, Stocked}
-use Rattle.tableau.specs.Successions.{Made, Marked}
 use Rattle.tableau.specs.Units.{FirstSet, NextSet, next_phase, with_edges}
-use Rattle.tableau.specs.Working.{Places, places_of, empty, UnitOf, Units, Units.none, Units.one_more, Fits}
+use Rattle.tableau.specs.Working.{empty, UnitOf, Units, Units.none, Units.one_more}
 use Rattle.tableau.specs.declared.grow.Grown.{Grown}
 use Rattle.tableau.specs.declared.node.Node.{Node}
 use Rattle.tableau.specs.declared.node.Edge.{Edge}
@@ -23,10 +21,9 @@ use Rattle.tableau.specs.declared.node.Used.{Used}
 use Rattle.tableau.specs.declared.unit.Origin.{Origin}
 use Rattle.tableau.specs.declared.unit.Origin.TheVariants.{First, Opened}
 use Rattle.tableau.proofs.Decoding.{claims_told, claims_tell}
-use Rattle.tableau.proofs.Members.{In, has, at, member as in_List, in_left, in_right, in_either, apart_append, lists, pigeon}
-use Rattle.tableau.proofs.Members as members
+use Rattle.tableau.proofs.Members.{In, has, member as in_List, lists}
 use Rattle.tableau.proofs.NodesHeld.{same_parts, same_claims, first_sound, first_complete, first_own, successor_sound, successor_complete, next_own}
-use Rattle.tableau.proofs.Shown.{shown, shown_from, length_shown, length_shown_from, at_shown, in_shown, shown_place, in_shown_from, shown_from_place, shown_more, shown_same, apart_shown, apart_shown_from}
+use Rattle.tableau.proofs.Shown.{shown, shown_from, length_shown, at_shown, in_shown, shown_place, in_shown_from, shown_from_place, shown_more, shown_same, apart_shown, apart_shown_from}
 
 -- the node and the edge that stand past the end
 abbrev pub no_node : Node

@@ -1,10 +1,10 @@
 -- Where the automaton of an until leads, and how many states it has.
-use Rattle.std.proofs.Common.{◌≡◌, ℕ, zero, suc, ◌+◌, ◌<◌, ◌≤◌, Bool, true, false, List, length, sym, refl, ap, ◌∙◌, subst, arith}
+use Rattle.std.proofs.Common.{◌≡◌, ℕ, zero, suc, ◌<◌, ◌≤◌, true, false, length, refl, arith}
 use Rattle.std.proofs.lemmas.Bool.{both_ways}
 use Rattle.program.specs.Words.{Program}
 use Rattle.program.specs.Automata.{names, Leads}
 use Rattle.program.proofs.Glushkov.{first_in, follow_in}
-use Rattle.document.specs.Documents.{Document, WellFormed, Refers, form_at, program_at}
+use Rattle.document.specs.Documents.{Document, WellFormed, Refers, form_at}
 use Rattle.document.specs.declared.form.Form.{Form}
 use Rattle.document.specs.declared.form.Form.TheVariants.{True, Prop, Not, And, Or, Next, Until}
 use Rattle.tableau.specs.Graphs.{program_of}

@@ -1,5 +1,5 @@
 -- Masks of what a set of claims tells, form by form.
-use Rattle.std.proofs.Common.{◌≡◌, ℕ, zero, suc, ◌+◌, ◌*◌, ◌%◌, ◌^◌, ◌<◌, Bool, true, false, cond, ◌⊎◌, ◌↔◌, sym, refl, ap, ◌∙◌, subst, inl, inr, mod-eq_of_lt, one-mul, arith}
+use Rattle.std.proofs.Common.{◌≡◌, ℕ, zero, suc, ◌+◌, ◌*◌, ◌%◌, ◌^◌, ◌<◌, Bool, ◌↔◌, sym, refl, ap, ◌∙◌, subst, inl, inr, mod-eq_of_lt, one-mul, arith}
 use lib.Bits.{bit_and, bit_or}
 use lib.Pow.{pow-lt}
 use Rattle.std.proofs.lemmas.Bool.{cases_order}

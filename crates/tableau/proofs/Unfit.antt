@@ -1,25 +1,22 @@
 -- Where a unit finds no place for a node or an edge, it does not fit the tables.
-use Rattle.std.proofs.Common.{◌≡◌, ℕ, zero, suc, ◌+◌, ◌-◌, ◌<◌, ◌≤◌, min, Bool, ◌⊎◌, List, [], ◌∷◌, ◌++◌, length, get_or, sym, refl, ap, ◌∙◌, subst, inl, inr, arith}
+use Rattle.std.proofs.Common.{◌≡◌, ℕ, ◌<◌, ◌≤◌, min, ◌⊎◌, List, [], ◌∷◌, ◌++◌, length, get_or, sym, refl, ap, ◌∙◌, subst, inl, inr, arith}
 use native.Mathlib.Nat.{min-le_left, min-le_right}
 use Rattle.std.proofs.lemmas.List.{length-append}
 use Rattle.std.proofs.lemmas.Bool.{cases_lt, cases_eq}
 use Rattle.document.specs.Documents.{Document, WellFormed}
-use Rattle.tableau.specs.Entered.{Known, Due, Apart, Linked, Entering, NoNode, NoEdge, Over}
-use Rattle.tableau.specs.Graphs.{FirstNode, Successor, Tables, Opens}
+use Rattle.tableau.specs.Entered.{Known, Due, Apart, Over}
+use Rattle.tableau.specs.Graphs.{Successor, Tables, Opens}
 use Rattle.tableau.specs.Graphs.{Node as Defined}
 use Rattle.tableau.specs.Held.{node_of, edge_of, tables_of}
-use Rattle.tableau.specs.Nodes.{node_at, edge_at}
-use Rattle.tableau.specs.Stock.{InOrder, Stocked}
+use Rattle.tableau.specs.Nodes.{node_at}
+use Rattle.tableau.specs.Stock.{Stocked}
 use Rattle.tableau.specs.Units.{FirstSet, NextSet, next_phase}
 use Rattle.tableau.specs.Working.{places_of, empty, UnitOf, Fits}
 use Rattle.tableau.specs.declared.grow.Grown.{Grown}
 use Rattle.tableau.specs.declared.node.Node.{Node}
 use Rattle.tableau.specs.declared.node.Edge.{Edge}
-use Rattle.tableau.specs.declared.node.Used.{Used}
-use Rattle.tableau.specs.declared.unit.Origin.{Origin}
 use Rattle.tableau.specs.declared.unit.Origin.TheVariants.{First, Opened}
-use Rattle.tableau.proofs.Members.{In, has, at, member, in_left, in_either, apart_append, pigeon}
-use Rattle.tableau.proofs.Members as members
+use Rattle.tableau.proofs.Members.{In, has, member, in_left, in_either, apart_append, pigeon}
 use Rattle.tableau.proofs.NodesHeld.{first_sound, first_own, successor_sound, next_own}
 use Rattle.tableau.proofs.Shown.{shown, shown_from, length_shown, length_shown_from, at_shown, in_shown, shown_place, shown_from_place, apart_shown, apart_shown_from}
 use Rattle.tableau.proofs.Stocking.{no_node, no_edge, Own, node_same, new_in_order, phase_turned, phase_small}

@@ -1,5 +1,5 @@
 -- Units of the definitions from units in memory, and growing from units.
-use Rattle.std.proofs.Common.{◌≡◌, ℕ, zero, suc, ◌+◌, ◌-◌, ◌<◌, ◌≤◌, min, Bool, true, false, ◌⊎◌, List, [], length, IfSome, Some, None, Option, sym, refl, ap, ◌∙◌, subst, inl, inr, add-suc, arith}
+use Rattle.std.proofs.Common.{◌≡◌, ℕ, suc, ◌+◌, ◌-◌, ◌<◌, ◌≤◌, min, List, [], length, IfSome, Some, None, Option, sym, refl, ap, ◌∙◌, subst, arith}
 use native.Mathlib.Nat.{le-min}
 use Rattle.document.specs.Documents.{Document}
 use Rattle.document.specs.declared.document.Document.{Document as Kept}
@@ -7,12 +7,11 @@ use Rattle.tableau.specs.Graphs.{Tables}
 use Rattle.tableau.specs.Growing.{Sound, Later}
 use Rattle.tableau.specs.Held.{node_of, edge_of, tables_of}
 use Rattle.tableau.specs.Nodes.{node_at, edge_at}
-use Rattle.tableau.specs.Numbers.{Shows}
 use Rattle.tableau.specs.Stock.{Stocked}
 use Rattle.tableau.specs.Tables.{Room}
 use Rattle.tableau.specs.Units.{FirstUnit, NextUnit}
 use Rattle.tableau.specs.UnitsHeld.{WorkedUnit, GivenUp, UnderWay, WorksUnit, Grew}
-use Rattle.tableau.specs.Working.{Places, places_of, empty, Growth, complete, full, more, growth_of, UnitOf, Units, Units.none, Units.one_more, Fits, NoneLeft, Grows}
+use Rattle.tableau.specs.Working.{places_of, empty, UnitOf, Units, Units.none, Units.one_more, Fits, NoneLeft}
 use Rattle.tableau.specs.declared.grow.Grown.{Grown}
 use Rattle.tableau.specs.declared.grow.Report.TheVariants.{Complete, Full, More}
 use Rattle.tableau.specs.declared.node.Node.{Node}

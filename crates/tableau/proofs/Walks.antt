@@ -1,5 +1,5 @@
 -- What a part of the walk enters, put together from its parts.
-use Rattle.std.proofs.Common.{◌≡◌, ℕ, ◌+◌, ◌<◌, ◌≤◌, Bool, true, false, ◌⊎◌, List, [], length, get_or, Some, None, Option, sym, refl, ap, ◌∙◌, subst, inl, inr}
+use Rattle.std.proofs.Common.{◌≡◌, ℕ, ◌+◌, ◌<◌, ◌≤◌, Bool, true, false, ◌⊎◌, List, length, get_or, Option, sym, ◌∙◌, subst, inl, inr}
 use Rattle.document.specs.Documents.{Document}
 use Rattle.tableau.specs.Calculus.{Calculus, ListsGiven, Fine}
 use Rattle.tableau.specs.Claims.{member, has, Same}

@@ -1,7 +1,7 @@
 -- The words of a set, bit by bit.
-use Rattle.std.proofs.Common.{◌≡◌, ℕ, zero, suc, ◌+◌, ◌-◌, ◌*◌, ◌/◌, ◌%◌, ◌^◌, ◌<◌, ◌≤◌, Bool, true, false, ◌||◌, eqb, ◌≢◌, ◌⊎◌, List, [], ◌∷◌, length, get_or, set, sym, refl, ap, ◌∙◌, subst, inl, inr, ⊎_elim, mod-lt, mul_comm, one-mul, pow-suc, arith}
-use mathlib.Core.Bool.{or-false, or_true}
-use native.Mathlib.Nat.{div_self, div-eq_of_lt, div-div-eq-div-mul}
+use Rattle.std.proofs.Common.{◌≡◌, ℕ, zero, suc, ◌+◌, ◌-◌, ◌*◌, ◌/◌, ◌%◌, ◌^◌, ◌<◌, ◌||◌, eqb, List, length, get_or, set, sym, refl, ap, ◌∙◌, subst, inl, inr, mod-lt, one-mul, pow-suc, arith}
+use mathlib.Core.Bool.{or-false, or-true}
+use native.Mathlib.Nat.{div_self, div-eq_of_lt}
 use lib.Bits.{bit_or, or_shr, or_mod, or_zero_r, shifted_even}
 use Rattle.std.proofs.lemmas.Nat.{pow_pos, pow-add, pow_below, shl-shr, one_shl, div-mul-add, mod-mul-add, shr-shr}
 use Rattle.std.proofs.lemmas.Bool.{cases_eq, cases_order, eq-eqb, ne_eqb, eqb-true, eqb-false}
@@ -45,7 +45,7 @@ bit_with : (a j i : ℕ) → eqb (bit_or a (2 ^ j) / 2 ^ i % 2) 1 ≡ (eqb (a / 
 bit_with a j i = elim (cases_order j i) [
   | inl e ↦
       let f : bit_or a (2 ^ j) / 2 ^ i % 2 ≡ 1 = or_bit a (2 ^ j) i ∙ ap (λ v. bit_or (a / 2 ^ i % 2) v) (ap (λ v. 2 ^ j / 2 ^ v % 2) (sym e) ∙ bit_at j) ∙ or_one (a / 2 ^ i % 2) (omega arith) in
-      eq-eqb _ _ f ∙ sym (or_true (eqb (a / 2 ^ i % 2) 1)) ∙ ap (λ v. eqb (a / 2 ^ i % 2) 1 || v) (sym (eq-eqb j i e))
+      eq-eqb _ _ f ∙ sym (or-true (eqb (a / 2 ^ i % 2) 1)) ∙ ap (λ v. eqb (a / 2 ^ i % 2) 1 || v) (sym (eq-eqb j i e))
   | inr o ↦
       let ne : j ≡ i → ⊥ = λ e. elim o [ inl l ↦ omega arith | inr l ↦ omega arith ] in
       let z : 2 ^ j / 2 ^ i % 2 ≡ 0 = elim o [ inl l ↦ bit_above j i l | inr l ↦ bit_below j i l ] in

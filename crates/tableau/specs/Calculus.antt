@@ -4,7 +4,7 @@ use Rattle.std.proofs.Common.{inl, inr}
 use Rattle.document.specs.Documents.{Document, form_at}
 use Rattle.document.specs.declared.form.Form.TheVariants.{True, Prop}
 use Rattle.tableau.specs.Claims.{has}
-use Rattle.tableau.specs.Graphs.{Sign, Sign.T, Sign.F, Claim, form, until_true, until_false, step_true, step_false, Gives}
+use Rattle.tableau.specs.Graphs.{Sign.T, Sign.F, Claim, form, until_true, until_false, step_true, step_false, Gives}
 use Rattle.tableau.specs.Numbers.{number_of, ClaimOf}
 use Rattle.tableau.specs.Offers.{listed}
 use Rattle.tableau.specs.declared.rules.Alternatives.{Alternatives}

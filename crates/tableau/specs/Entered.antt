@@ -1,5 +1,5 @@
 -- What a part of a unit enters into the two tables, given which sets are due (P) and which must be there afterwards (Q).
-use Rattle.std.specs.Prelude.{◌≡◌, ℕ, ◌+◌, ◌<◌, ◌≤◌, Bool, ◌⊎◌, List, length, set, Option, MatchOption, ◌≢◌, slice_set}
+use Rattle.std.specs.Prelude.{◌≡◌, ℕ, ◌+◌, ◌<◌, ◌≤◌, Bool, ◌⊎◌, List, length, Option, MatchOption, ◌≢◌, slice_set}
 use Rattle.document.specs.Documents.{Document}
 use Rattle.document.specs.declared.declared.Declared.{Declared}
 use Rattle.tableau.specs.Claims.{member, Same}

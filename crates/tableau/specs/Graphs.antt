@@ -1,5 +1,5 @@
 -- The graph of a goal: claims, expansions, nodes, and the tables after a number of units.
-use Rattle.std.specs.Prelude.{◌≡◌, ℕ, zero, suc, ◌+◌, ◌-◌, ◌<◌, ◌≤◌, Bool, true, false, cond, ◌⊎◌, List, [], ◌∷◌, ◌++◌, length, get_or, ◌≢◌, slice_index_or}
+use Rattle.std.specs.Prelude.{◌≡◌, ℕ, suc, ◌-◌, ◌<◌, Bool, true, false, cond, ◌⊎◌, List, [], ◌++◌, length, get_or, ◌≢◌, slice_index_or}
 use Rattle.std.specs.List.{ContainsAt as Has}
 use Rattle.program.specs.Words.{Program, act}
 use Rattle.program.specs.Automata.{Leads, Final}

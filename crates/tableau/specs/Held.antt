@@ -1,8 +1,8 @@
 -- The graph that stands in memory: nodes and tables as the definitions have them.
-use Rattle.std.specs.Prelude.{ℕ, ◌<◌, Bool, true, false, not, ◌&&◌, List, map, length, take, nat_lt}
+use Rattle.std.specs.Prelude.{ℕ, Bool, not, ◌&&◌, List, map, length, take, nat_lt}
 use Rattle.document.specs.Documents.{Document, form_at}
 use Rattle.tableau.specs.Claims.{member}
-use Rattle.tableau.specs.Graphs.{Sign, Claim, form, until_true, until_false, step_true, step_false, Tables}
+use Rattle.tableau.specs.Graphs.{Claim, form, until_true, until_false, step_true, step_false, Tables}
 use Rattle.tableau.specs.Graphs.{Node as Defined}
 use Rattle.tableau.specs.Numbers.{is_until, states, number_of}
 use Rattle.tableau.specs.declared.node.Node.{Node}

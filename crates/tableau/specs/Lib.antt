@@ -16,4 +16,5 @@ pub mod Tables
 pub mod Units
 pub mod UnitsHeld
 pub mod Walk
+pub mod WholeGraph
 pub mod Working

@@ -1,5 +1,5 @@
 -- The claim that a claim in memory means.
-use Rattle.tableau.specs.Graphs.{Sign, Sign.T, Sign.F, Claim, form, until_true, until_false, step_true, step_false}
+use Rattle.tableau.specs.Graphs.{Sign.T, Sign.F, Claim, form, until_true, until_false, step_true, step_false}
 use Rattle.tableau.specs.declared.claim.Claim.{Claim as Held}
 use Rattle.tableau.specs.declared.claim.Claim.TheVariants.{True, False, TrueUntil, FalseUntil, TrueStep, FalseStep}
 

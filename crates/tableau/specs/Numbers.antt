@@ -1,5 +1,5 @@
 -- The claims of a document and their numbers: two for a form that is no until; six runs of one number a state for an until.
-use Rattle.std.specs.Prelude.{◌≡◌, ℕ, suc, ◌+◌, ◌*◌, ◌<◌, Bool, true, false, cond, List, length, take, ◌==◌, slice_index}
+use Rattle.std.specs.Prelude.{◌≡◌, ℕ, suc, ◌+◌, ◌*◌, ◌<◌, Bool, true, false, cond, length, take, ◌==◌, slice_index}
 use Rattle.program.specs.Automata.{names}
 use Rattle.program.specs.Rows.{RowOf}
 use Rattle.document.specs.Documents.{Document, WellFormed, form_at, program_at, weight}
@@ -7,7 +7,7 @@ use Rattle.document.specs.Forms.{form_in, row_at}
 use Rattle.document.specs.declared.declared.Declared.{Declared}
 use Rattle.document.specs.declared.form.Form.{Form}
 use Rattle.document.specs.declared.form.Form.TheVariants.{True, Prop, Not, And, Or, Next, Until}
-use Rattle.tableau.specs.Graphs.{Sign, Sign.T, Sign.F, Claim, form, until_true, until_false, step_true, step_false, program_of}
+use Rattle.tableau.specs.Graphs.{Sign.T, Sign.F, Claim, form, until_true, until_false, step_true, step_false, program_of}
 
 abbrev pub is_until : Form → Bool
 is_until True = false

@@ -1,5 +1,5 @@
 -- What a set of claims tells of the node that is made of it, and what a node hands on.
-use Rattle.std.specs.Prelude.{◌≡◌, ℕ, ◌+◌, ◌<◌, ◌≤◌, Bool, true, false, ◌⊎◌, ◌↔◌, List, [], ◌∷◌, length}
+use Rattle.std.specs.Prelude.{◌≡◌, ℕ, ◌+◌, ◌<◌, ◌≤◌, Bool, true, false, ◌⊎◌, ◌↔◌, List, [], ◌∷◌}
 use Rattle.program.specs.Automata.{Leads}
 use Rattle.program.specs.Masks.{Bit}
 use Rattle.document.specs.Documents.{Document, form_at}

@@ -1,5 +1,5 @@
 -- The trail of claims: how it grows, and that it tells of the same claims as the set.
-use Rattle.std.specs.Prelude.{◌≡◌, ℕ, zero, suc, ◌+◌, ◌<◌, ◌≤◌, Bool, true, false, cond, List, [], ◌∷◌, ◌++◌, length, take, slice_index}
+use Rattle.std.specs.Prelude.{◌≡◌, ℕ, zero, suc, ◌+◌, ◌<◌, false, cond, List, [], ◌∷◌, ◌++◌, length, take, slice_index}
 use Rattle.tableau.specs.Claims.{member, has, Same}
 use Rattle.tableau.specs.declared.trail.Trail.{Trail}
 

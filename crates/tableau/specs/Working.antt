@@ -1,5 +1,5 @@
 -- Working units: what each enters, how many fit, and what growing reports.
-use Rattle.std.specs.Prelude.{◌≡◌, ℕ, zero, suc, ◌+◌, ◌<◌, ◌≤◌, min, List, [], length}
+use Rattle.std.specs.Prelude.{◌≡◌, ℕ, zero, suc, ◌+◌, ◌<◌, ◌≤◌, min, [], length}
 use Rattle.std.proofs.Math.Nat.{min-le_right}
 use Rattle.document.specs.Documents.{Document}
 use Rattle.tableau.specs.Graphs.{FirstNode, Lists, Tables, Opens}

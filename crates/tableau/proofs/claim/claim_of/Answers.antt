@@ -1,4 +1,4 @@
-use Rattle.std.proofs.Common.{◌≡◌, ℕ, ◌+◌, ◌<◌, ◌≤◌, length, get_or, sym, ap, ◌∙◌, subst, arith, below_more}
+use Rattle.std.proofs.Common.{◌≡◌, ◌+◌, ◌<◌, ◌≤◌, length, get_or, ap, ◌∙◌, arith, below_more}
 use Rattle.document.specs.Documents.{form_at, weight_of}
 use Rattle.document.specs.Forms.{form_in, weight_in}
 use Rattle.document.specs.declared.form.Form.{Form}

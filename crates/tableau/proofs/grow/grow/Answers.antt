@@ -1,4 +1,4 @@
-use Rattle.std.proofs.Common.{◌≡◌, ◌<◌, ◌≤◌, ltb, List, length, sym, ◌∙◌, subst, arith, rules}
+use Rattle.std.proofs.Common.{◌≡◌, ◌<◌, ◌≤◌, List, length, sym, ◌∙◌, subst, arith}
 use Rattle.tableau.specs.declared.grow.Grown.{Grown}
 use Rattle.tableau.specs.declared.node.Node.{Node}
 use Rattle.tableau.specs.declared.node.Edge.{Edge}
@@ -7,7 +7,7 @@ use Rattle.tableau.specs.Growing.{Sound}
 use Rattle.tableau.specs.UnitsHeld.{UnderWay}
 use Rattle.tableau.proofs.grow.grow.Goals as goal
 use Rattle.tableau.proofs.grow.grow.Goals.{then-loop-units-test+else-not-is_complete, else-loop-units-test}
-use Rattle.tableau.proofs.UnitsWorked.{Progress, progress_none, progress_more, grew_full, grew_complete, grew_more}
+use Rattle.tableau.proofs.UnitsWorked.{progress_none, progress_more, grew_full, grew_complete, grew_more}
 
 -- tables of the same lengths
 resized : (nodes nodes' : List Node) (edges edges' : List Edge) (g : Grown) → length nodes ≡ length nodes' → length edges ≡ length edges' → Sound (length nodes) (length edges) g → Sound (length nodes') (length edges') g

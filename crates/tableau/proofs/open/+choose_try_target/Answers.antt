@@ -1,4 +1,4 @@
-use Rattle.std.proofs.Common.{◌≡◌, ◌+◌, [], ◌∷◌, Some, None, sym, refl, ap, ◌∙◌, subst, arith, rules}
+use Rattle.std.proofs.Common.{◌+◌, [], ◌∷◌, Some, None, sym, refl, ap, ◌∙◌, subst, arith, rules}
 use Rattle.program.proofs.Bits.{bit_read}
 use Rattle.tableau.specs.Calculus.{calculus, Fine}
 use Rattle.tableau.specs.Claims.{has}
@@ -8,7 +8,7 @@ use Rattle.tableau.specs.Graphs.{until_true}
 use Rattle.tableau.specs.Numbers.{number_of}
 use Rattle.tableau.specs.Units.{Reaching, Leading, Tries}
 use Rattle.tableau.specs.Walk.{on, grown}
-use Rattle.tableau.proofs.Choosing.{NextStep, Branch, Family, leading_stuck, family_none, family_skip, choose_end, choose_turn, choose_over, choose_all}
+use Rattle.tableau.proofs.Choosing.{NextStep, Branch, leading_stuck, family_none, family_skip, choose_end, choose_turn, choose_over, choose_all}
 use Rattle.tableau.proofs.Entries.{ready_after, entered_none, entered_is}
 use Rattle.tableau.proofs.Steps.{back, back_none}
 use Rattle.tableau.proofs.Targets.{target_state}

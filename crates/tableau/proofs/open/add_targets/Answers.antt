@@ -1,10 +1,10 @@
-use Rattle.std.proofs.Common.{◌≡◌, ◌+◌, sym, ap, ◌∙◌, subst, arith, rules}
+use Rattle.std.proofs.Common.{◌+◌, sym, ◌∙◌, subst, arith, rules}
 use Rattle.program.proofs.Bits.{bit_read}
 use Rattle.tableau.specs.Calculus.{calculus}
 use Rattle.tableau.specs.Handing.{Any, To, Added, Hands}
 use Rattle.tableau.specs.Walk.{on}
 use Rattle.tableau.proofs.Handed.{Below, added_none, added_one, added_like, added_more, added_skip, added_all, clashed_one, clashed_weaken, clashed_more}
-use Rattle.tableau.proofs.Targets.{target_state, leads_in, few_states}
+use Rattle.tableau.proofs.Targets.{target_state, few_states}
 use Rattle.tableau.proofs.open.add_targets.Goals as goal
 use Rattle.tableau.proofs.open.add_targets.Goals.{then-reached-target-eq1+in_ok-all, else-reached-target-eq1}
 

@@ -1,5 +1,5 @@
-use Rattle.std.proofs.Common.{◌≡◌, ◌<◌, true, length}
-use Rattle.document.specs.Documents.{Document, form_at}
+use Rattle.std.proofs.Common.{◌<◌}
+use Rattle.document.specs.Documents.{Document}
 use Rattle.tableau.specs.Calculus.{calculus, Fine}
 use Rattle.tableau.specs.Claims.{has}
 use Rattle.tableau.specs.Handing.{To, Added}

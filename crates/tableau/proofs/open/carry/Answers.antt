@@ -1,6 +1,6 @@
-use Rattle.std.proofs.Common.{◌≡◌, sym, ap, ◌∙◌, subst, arith, rules}
+use Rattle.std.proofs.Common.{sym, ap, ◌∙◌, subst, arith, rules}
 use Rattle.tableau.specs.Calculus.{calculus}
-use Rattle.tableau.specs.Handing.{Any, By, Hands}
+use Rattle.tableau.specs.Handing.{By, Hands}
 use Rattle.tableau.specs.Successions.{Handed}
 use Rattle.tableau.specs.Walk.{on}
 use Rattle.tableau.proofs.Handed.{added_none, added_like, added_more, added_all, clashed_weaken, clashed_more}

@@ -1,11 +1,11 @@
-use Rattle.std.proofs.Common.{◌≡◌, [], ◌∷◌, sym, ap, ◌∙◌, subst, rules}
+use Rattle.std.proofs.Common.{[], ◌∷◌, sym, ap, ◌∙◌, subst, rules}
 use Rattle.tableau.specs.Calculus.{calculus, Fine}
 use Rattle.tableau.specs.Claims.{has}
 use Rattle.tableau.specs.Entered.{Enters}
 use Rattle.tableau.specs.Expansions.{Reached, Leads, Stuck}
 use Rattle.tableau.specs.Graphs.{Sign.T, says}
 use Rattle.tableau.specs.Numbers.{number_of}
-use Rattle.tableau.specs.Walk.{on, grown}
+use Rattle.tableau.specs.Walk.{grown}
 use Rattle.tableau.proofs.Clashes.{fine_none}
 use Rattle.tableau.proofs.Steps.{stands_none}
 use Rattle.tableau.proofs.Walks.{walk_stuck}

@@ -1,4 +1,4 @@
-use Rattle.std.proofs.Common.{◌≡◌, [], sym, subst, rules}
+use Rattle.std.proofs.Common.{sym, subst, rules}
 use Rattle.tableau.specs.Calculus.{calculus}
 use Rattle.tableau.specs.Units.{Reaching, Leading, Succeeding, Heading}
 use Rattle.tableau.specs.Walk.{on}

@@ -1,4 +1,4 @@
-use Rattle.std.proofs.Common.{◌≡◌, sym, ap, ◌∙◌}
+use Rattle.std.proofs.Common.{◌≡◌, ap, ◌∙◌}
 use Rattle.document.specs.declared.form.Form.TheVariants.{Next, Until}
 use Rattle.document.specs.Documents.{form_at}
 use Rattle.tableau.specs.Calculus.{calculus}

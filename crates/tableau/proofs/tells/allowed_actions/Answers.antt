@@ -1,10 +1,10 @@
-use Rattle.std.proofs.Common.{◌≡◌, ℕ, ◌<◌, length, sym, refl, ap, ◌∙◌, arith}
+use Rattle.std.proofs.Common.{◌≡◌, sym, ap, ◌∙◌, arith}
 use Rattle.std.proofs.lemmas.Bool.{both_ways}
 use Rattle.document.specs.Documents.{form_at}
 use Rattle.document.specs.declared.form.Form.TheVariants.{Next}
 use Rattle.document.specs.declared.names.Names.{Names}
 use Rattle.tableau.specs.Claims.{member}
-use Rattle.tableau.specs.Graphs.{Sign, Sign.T, form}
+use Rattle.tableau.specs.Graphs.{Sign.T, form}
 use Rattle.tableau.specs.Numbers.{ClaimOf}
 use Rattle.tableau.proofs.tells.allowed_actions.Goals as goal
 use Rattle.tableau.proofs.tells.allowed_actions.Goals.{in-Next+then-contains, in-Next+else-contains, in_default}
@@ -24,9 +24,9 @@ loop-e-preserved c = λ d s a l.
     let now = c.loop-e.invariant d s a l in
     elim c.match-form.branch [
       | in-Next+then-contains w ↦
-          let is : form_at d e ≡ Next w.in-Next.b w.in-Next.-f = sym t.1 ∙ w.in-Next.is in
-          let own : ClaimOf d (form T e) = (t.0, plain_next (form_at d e) w.in-Next.b w.in-Next.-f is) in
-          allow_one d N e a c.loop-e.allowed c.match-form.allowed w.in-Next.b w.in-Next.-f w.allowed-is w.in-Next.ensures.earlier.0 is (own, ap N (sym (w.number.ensures d s own)) ∙ sym w.contains.ensures ∙ w.if-contains.true) now
+          let is : form_at d e ≡ Next w.in-Next.b w.in-Next._f = sym t.1 ∙ w.in-Next.is in
+          let own : ClaimOf d (form T e) = (t.0, plain_next (form_at d e) w.in-Next.b w.in-Next._f is) in
+          allow_one d N e a c.loop-e.allowed c.match-form.allowed w.in-Next.b w.in-Next._f w.allowed-is w.in-Next.ensures.earlier.0 is (own, ap N (sym (w.number.ensures d s own)) ∙ sym w.contains.ensures ∙ w.if-contains.true) now
       | in-Next+else-contains w ↦
           allow_same d N e a c.loop-e.allowed c.match-form.allowed w.allowed-is now (λ b f k q. both_ways w.contains.result w.if-contains.false (w.contains.ensures ∙ ap N (w.number.ensures d s k.0) ∙ k.1))
       | in_default w ↦

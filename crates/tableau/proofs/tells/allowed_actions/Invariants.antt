@@ -3,7 +3,7 @@ use Rattle.program.specs.Masks.{Bit}
 use Rattle.document.specs.Documents.{Document, form_at}
 use Rattle.document.specs.declared.form.Form.TheVariants.{Next}
 use Rattle.tableau.specs.Claims.{member}
-use Rattle.tableau.specs.Graphs.{Sign, Sign.T, form}
+use Rattle.tableau.specs.Graphs.{Sign.T, form}
 use Rattle.tableau.specs.Numbers.{Shows}
 use Rattle.tableau.specs.Successions.{Claims}
 use Rattle.tableau.proofs.tells.allowed_actions.Given as goal

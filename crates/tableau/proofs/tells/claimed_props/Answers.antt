@@ -1,10 +1,10 @@
-use Rattle.std.proofs.Common.{◌≡◌, ℕ, ◌<◌, cond, sym, refl, ap, ◌∙◌, subst, arith}
+use Rattle.std.proofs.Common.{◌≡◌, cond, sym, ap, ◌∙◌, subst, arith}
 use Rattle.std.proofs.lemmas.Bool.{both_ways}
 use Rattle.document.specs.Documents.{form_at}
 use Rattle.document.specs.declared.form.Form.TheVariants.{Prop}
 use Rattle.document.specs.declared.names.Names.{Names}
 use Rattle.tableau.specs.Claims.{member}
-use Rattle.tableau.specs.Graphs.{Sign, Sign.T, Sign.F, form}
+use Rattle.tableau.specs.Graphs.{Sign.T, Sign.F, form}
 use Rattle.tableau.specs.Numbers.{number_of, ClaimOf}
 use Rattle.tableau.proofs.tells.claimed_props.Goals as goal
 use Rattle.tableau.proofs.tells.claimed_props.Goals.{in-Prop+then-contains, in-Prop+else-contains, in_default}

@@ -1,10 +1,9 @@
-use Rattle.std.proofs.Common.{◌≡◌, ℕ, ◌<◌, true, false, sym, refl, ap, ◌∙◌, arith, below_more}
+use Rattle.std.proofs.Common.{◌≡◌, ℕ, false, refl, ap, ◌∙◌, arith, below_more}
 use Rattle.std.proofs.lemmas.Bool.{both_ways}
 use Rattle.document.specs.Documents.{form_at}
 use Rattle.document.specs.declared.names.Names.{Names}
 use Rattle.tableau.specs.Claims.{member}
 use Rattle.tableau.specs.Graphs.{until_true}
-use Rattle.tableau.specs.Numbers.{is_until}
 use Rattle.tableau.specs.Successions.{Claims}
 use Rattle.tableau.proofs.tells.promises.Goals as goal
 use Rattle.tableau.proofs.tells.promises.Goals.{in-Until+else-promises_in, in_default}

@@ -1,4 +1,4 @@
-use Rattle.std.proofs.Common.{◌≡◌, ℕ, ◌<◌, false, refl, ap, ◌∙◌, arith, below_more}
+use Rattle.std.proofs.Common.{false, refl, ap, ◌∙◌, arith, below_more}
 use Rattle.std.proofs.lemmas.Bool.{both_ways}
 use Rattle.tableau.specs.Claims.{member}
 use Rattle.tableau.specs.Graphs.{until_true}

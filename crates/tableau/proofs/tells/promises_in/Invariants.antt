@@ -1,4 +1,4 @@
-use Rattle.std.proofs.Common.{◌≡◌, ℕ, ◌<◌}
+use Rattle.std.proofs.Common.{ℕ, ◌<◌}
 use Rattle.document.specs.Documents.{Document}
 use Rattle.tableau.specs.Claims.{member}
 use Rattle.tableau.specs.Graphs.{until_true}

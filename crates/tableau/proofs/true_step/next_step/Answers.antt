@@ -1,11 +1,10 @@
-use Rattle.std.proofs.Common.{◌≡◌, ℕ, ◌<◌, ◌≤◌, sym, refl, ap, ◌∙◌, inl, inr, arith}
+use Rattle.std.proofs.Common.{sym, ap, ◌∙◌, inl, inr, arith}
 use Rattle.std.proofs.lemmas.Bool.{both_ways, cases_order}
 use Rattle.tableau.specs.Claims.{member}
 use Rattle.tableau.specs.Graphs.{step_true}
 use Rattle.tableau.specs.Numbers.{number_of}
 use Rattle.tableau.proofs.true_step.next_step.Goals as goal
 use Rattle.tableau.proofs.true_step.next_step.Goals.{then-contains+in_default, else-contains}
-use Rattle.tableau.proofs.Numbering.{number_within}
 
 pub loop-c-preserved : goal.loop-c-preserved
 loop-c-preserved c = λ d s e q l k low high.

@@ -1,4 +1,3 @@
-use Rattle.std.proofs.Common.{◌≡◌, ℕ, ◌<◌}
 use Rattle.document.specs.Documents.{Document}
 use Rattle.tableau.specs.Numbers.{Shows}
 use Rattle.tableau.specs.Successions.{NoStep}

@@ -40,9 +40,9 @@ expand-returns-in-One t c = record {
       (omega (arith, c.requires.stands.long, c.if-at-trail.false)) (get_or-take c.args.trail.now.len c.args.trail.now.claims c.args.at 0 c.if-at-trail.false) (c.in-One.ensures.offers d ready.shows) (c.follow.ensures.entered d ready fine);
 }
 
-pub expand-returns-in_err-more : goal.expand-returns-in_err-more
-expand-returns-in_err-more t c =
-    let f = c.in_err-more.ensures in
+pub expand-returns-in_err-more-in-Two : goal.expand-returns-in_err-more-in-Two
+expand-returns-in_err-more-in-Two t c =
+    let f = c.in_err-more-in-Two.ensures in
     record {
       len = f.len;
       kept = f.kept;
@@ -55,9 +55,9 @@ expand-returns-in_err-more t c =
           (omega (arith, c.requires.stands.long, c.if-at-trail.false)) (get_or-take c.args.trail.now.len c.args.trail.now.claims c.args.at 0 c.if-at-trail.false) (c.in-Two.ensures.offers d ready.shows).0 (f.entered d ready fine));
     }
 
-pub expand-returns-in_ok-more : goal.expand-returns-in_ok-more
-expand-returns-in_ok-more t c =
-    let f = c.in_ok-more.ensures in
+pub expand-returns-in_ok-more-in-Two : goal.expand-returns-in_ok-more-in-Two
+expand-returns-in_ok-more-in-Two t c =
+    let f = c.in_ok-more-in-Two.ensures in
     let h = c.follow-in-Two-2.ensures in
     record {
       len = h.len ∙ f.len;
@@ -68,10 +68,10 @@ expand-returns-in_ok-more t c =
           let o = c.args.opening.origin in
           let m = calculus d x in
           let first = f.entered d ready fine in
-          let second = h.entered d (ready_after c.args.opening.rules.declared.now d x o c.args.used c.in_ok-more.more first.goes.more_edges ready) (subst (λ l. Fine m (has l)) (sym f.kept) fine) in
-          walk_both d x o m c.args.at (get_or c.args.trail.now.claims c.args.at 0) (on c.args.trail.now) (listed c.in-Two.first) (listed c.in-Two.second) c.args.nodes.now c.follow-in-Two.new.nodes c.follow-in-Two-2.new.nodes c.args.edges.now c.follow-in-Two.new.edges c.follow-in-Two-2.new.edges c.args.used c.in_ok-more.more c.follow-in-Two-2.result
+          let second = h.entered d (ready_after c.args.opening.rules.declared.now d x o c.args.used c.in_ok-more-in-Two.more first.goes.more_edges ready) (subst (λ l. Fine m (has l)) (sym f.kept) fine) in
+          walk_both d x o m c.args.at (get_or c.args.trail.now.claims c.args.at 0) (on c.args.trail.now) (listed c.in-Two.first) (listed c.in-Two.second) c.args.nodes.now c.follow-in-Two.new.nodes c.follow-in-Two-2.new.nodes c.args.edges.now c.follow-in-Two.new.edges c.follow-in-Two-2.new.edges c.args.used c.in_ok-more-in-Two.more c.follow-in-Two-2.result
           (omega (arith, c.requires.stands.long, c.if-at-trail.false)) (get_or-take c.args.trail.now.len c.args.trail.now.claims c.args.at 0 c.if-at-trail.false) (c.in-Two.ensures.offers d ready.shows).0 (c.in-Two.ensures.offers d ready.shows).1 first
-          (subst (λ l. Enters d x o (Reached m (c.args.at + 1) (grown l (listed c.in-Two.second))) (Leads m (c.args.at + 1) (grown l (listed c.in-Two.second))) c.follow-in-Two.new.nodes c.follow-in-Two.new.edges c.in_ok-more.more c.follow-in-Two-2.new.nodes c.follow-in-Two-2.new.edges c.follow-in-Two-2.result) f.kept second);
+          (subst (λ l. Enters d x o (Reached m (c.args.at + 1) (grown l (listed c.in-Two.second))) (Leads m (c.args.at + 1) (grown l (listed c.in-Two.second))) c.follow-in-Two.new.nodes c.follow-in-Two.new.edges c.in_ok-more-in-Two.more c.follow-in-Two-2.new.nodes c.follow-in-Two-2.new.edges c.follow-in-Two-2.result) f.kept second);
     }
 
 pub follow-returns-in_default : goal.follow-returns-in_default

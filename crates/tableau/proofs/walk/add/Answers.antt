@@ -1,4 +1,4 @@
-use Rattle.std.proofs.Common.{◌+◌, get_or, sym, refl, ap, ◌∙◌, subst, arith, take_all, rules}
+use Rattle.std.proofs.Common.{◌+◌, get_or, sym, refl, ap, ◌∙◌, subst, arith, take_all}
 use Rattle.std.proofs.lemmas.Bool.{both_ways}
 use Rattle.tableau.specs.Calculus.{calculus, Fine}
 use Rattle.tableau.specs.Claims.{has}
@@ -23,7 +23,7 @@ returns-then-clashes c =
 
 pub push-requires : goal.push-requires
 push-requires c =
-    place c.loop-x.set.words (on c.loop-x.trail) c.loop-x.trail.len _ c.loop-x.invariant.0.stands c.type-inv.c.fits (sym c.if-not-contains.ensures)
+    place c.loop-x.set.words (on c.loop-x.trail) c.loop-x.trail.len _ c.loop-x.invariant.0.stands c.type_inv.c.fits (sym c.if-not-contains.ensures)
 
 pub loop-x-preserved : goal.loop-x-preserved
 loop-x-preserved c =
@@ -31,12 +31,12 @@ loop-x-preserved c =
       | then-not-contains+else-clashes w ↦ (
         subst (λ v. Held c.args.trail.now c.args.claims.now (c.loop-x.x-index + 1) c.if-not-contains.set v) (sym w.trail-is)
             (subst (λ v. Held c.args.trail.now c.args.claims.now (c.loop-x.x-index + 1) v w.push.new.self) (sym w.set-is)
-            (held_new c.args.trail.now c.args.claims.now c.loop-x.x-index c.loop-x.set w.with-set.result c.loop-x.trail w.push.new.self c.loop-x-test.true (c.type-inv.claims c.loop-x.x-index).fits (sym w.if-not-contains.ensures) w.with-set.ensures w.push.ensures.whole w.push.ensures.len w.push.ensures.claims c.loop-x.invariant.0)),
+            (held_new c.args.trail.now c.args.claims.now c.loop-x.x-index c.loop-x.set w.with-set.result c.loop-x.trail w.push.new.self c.loop-x-test.true (c.type_inv.claims c.loop-x.x-index).fits (sym w.if-not-contains.ensures) w.with-set.ensures w.push.ensures.whole w.push.ensures.len w.push.ensures.claims c.loop-x.invariant.0)),
         λ d shows fine.
             let m = calculus d c.args.rules.phase in
             let h = c.loop-x.invariant.0.stands in
             let x = get_or c.args.claims.now c.loop-x.x-index 0 in
-            let fits = place c.loop-x.set.words (on c.loop-x.trail) c.loop-x.trail.len x h (c.type-inv.claims c.loop-x.x-index).fits (sym w.if-not-contains.ensures) in
+            let fits = place c.loop-x.set.words (on c.loop-x.trail) c.loop-x.trail.len x h (c.type_inv.claims c.loop-x.x-index).fits (sym w.if-not-contains.ensures) in
             subst (λ v. Fine m (has (on v))) (sym w.trail-is)
             (subst (λ l. Fine m (has l)) (sym (pushed c.loop-x.trail w.push.new.self x w.push.ensures.whole fits w.push.ensures.len w.push.ensures.claims))
             (fine_push m c.loop-x.set.words (on c.loop-x.trail) x h.same (λ k. both_ways w.clashes.result w.if-clashes.false ((w.clashes.ensures d shows).1 k)) (c.loop-x.invariant.1 d shows fine))),

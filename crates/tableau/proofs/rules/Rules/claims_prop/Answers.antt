@@ -1,10 +1,10 @@
-use Rattle.std.proofs.Common.{◌≡◌, ℕ, ◌<◌, true, false, cond, length, sym, refl, ap, ◌∙◌, subst, arith, below_more}
+use Rattle.std.proofs.Common.{◌≡◌, false, cond, sym, refl, ap, ◌∙◌, subst, arith, below_more}
 use Rattle.std.proofs.lemmas.Bool.{both_ways}
 use Rattle.document.specs.Documents.{form_at}
 use Rattle.document.specs.declared.form.Form.TheVariants.{Prop}
 use Rattle.document.specs.declared.names.Names.{Names}
 use Rattle.tableau.specs.Claims.{member}
-use Rattle.tableau.specs.Graphs.{Sign, Sign.T, Sign.F, Claim, form}
+use Rattle.tableau.specs.Graphs.{Sign.T, Sign.F, form}
 use Rattle.tableau.specs.Numbers.{number_of, ClaimOf}
 use Rattle.tableau.specs.Successions.{Claims}
 use Rattle.tableau.proofs.rules.Rules.claims_prop.Goals as goal

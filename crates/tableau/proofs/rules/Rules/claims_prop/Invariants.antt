@@ -2,7 +2,7 @@ use Rattle.std.proofs.Common.{◌≡◌, ℕ, ◌<◌, cond}
 use Rattle.document.specs.Documents.{Document, form_at}
 use Rattle.document.specs.declared.form.Form.TheVariants.{Prop}
 use Rattle.tableau.specs.Claims.{member}
-use Rattle.tableau.specs.Graphs.{Sign, Sign.T, Sign.F, form}
+use Rattle.tableau.specs.Graphs.{Sign.T, Sign.F, form}
 use Rattle.tableau.specs.Numbers.{Shows}
 use Rattle.tableau.specs.Successions.{Claims}
 use Rattle.tableau.proofs.rules.Rules.claims_prop.Given as goal

@@ -1,8 +1,8 @@
-use Rattle.std.proofs.Common.{◌≡◌, ℕ, Bool, true, false, cond, not, sym, refl, ap, ◌∙◌, subst}
+use Rattle.std.proofs.Common.{◌≡◌, true, false, cond, not, sym, refl, ap, ◌∙◌, subst}
 use Rattle.std.proofs.lemmas.Bool.{both_ways}
 use Rattle.document.specs.declared.form.Form.TheVariants.{True, Prop}
 use Rattle.tableau.specs.Claims.{member}
-use Rattle.tableau.specs.Graphs.{Sign, Sign.T, Sign.F, Claim, form}
+use Rattle.tableau.specs.Graphs.{Sign.T, Sign.F, form}
 use Rattle.tableau.specs.Numbers.{number_of, ClaimOf}
 use Rattle.tableau.proofs.rules.Rules.clashes_form.Goals as goal
 use Rattle.tableau.proofs.Numbering.{form_there}

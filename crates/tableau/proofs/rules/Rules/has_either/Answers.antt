@@ -1,4 +1,4 @@
-use Rattle.std.proofs.Common.{◌≡◌, true, false, ◌||◌, sym, ap, ◌∙◌}
+use Rattle.std.proofs.Common.{◌≡◌, false, ◌||◌, sym, ap, ◌∙◌}
 use Rattle.tableau.specs.Claims.{member}
 use Rattle.tableau.specs.Meant.{meant}
 use Rattle.tableau.specs.Numbers.{number_of}

@@ -1,9 +1,8 @@
 use Rattle.std.proofs.Common.{refl, subst, arith}
-use Rattle.document.specs.Documents.{Refers}
 use Rattle.document.specs.declared.form.Form.{Form}
 use Rattle.document.specs.declared.form.Form.TheVariants.{And}
 use Rattle.tableau.specs.Calculus.{Offered}
-use Rattle.tableau.specs.Graphs.{Sign, Sign.F, says, GivesForm}
+use Rattle.tableau.specs.Graphs.{Sign.F, says, GivesForm}
 use Rattle.tableau.proofs.rules.Rules.of_false.Goals as goal
 use Rattle.tableau.proofs.Numbering.{form_there, refers_there}
 use Rattle.tableau.proofs.Offering.{offered_either}

@@ -1,9 +1,8 @@
 use Rattle.std.proofs.Common.{refl, subst, arith}
-use Rattle.document.specs.Documents.{Refers}
 use Rattle.document.specs.declared.form.Form.{Form}
 use Rattle.document.specs.declared.form.Form.TheVariants.{Or}
 use Rattle.tableau.specs.Calculus.{Offered}
-use Rattle.tableau.specs.Graphs.{Sign, Sign.T, says, GivesForm}
+use Rattle.tableau.specs.Graphs.{Sign.T, says, GivesForm}
 use Rattle.tableau.proofs.rules.Rules.of_true.Goals as goal
 use Rattle.tableau.proofs.Numbering.{form_there, refers_there}
 use Rattle.tableau.proofs.Offering.{offered_either}
