@@ -1,6 +1,6 @@
 -- Texts of lassos: one outcome, one lasso.
 use Rattle.std.proofs.Common.{◌≡◌, ℕ, zero, suc, ◌+◌, ◌<◌, ◌≤◌, Bool, true, ltb, ◌⊎◌, List, [], ◌∷◌, ◌++◌, map, length, take, drop, sym, refl, ap, ◌∙◌, subst, inl, inr, ⊎_elim, append_assoc, arith}
-use Rattle.std.specs.List.{AllByRecursion as All}
+use Rattle.std.specs.List.{AllByRecursion}
 use Rattle.std.proofs.ByRecursion.{All-get_or, All-from_get_or}
 use Rattle.std.proofs.lemmas.List.{length-map, take_at, drop_at}
 use Rattle.std.proofs.lemmas.Bool.{lt-ltb, le-ltb, ltb-true, ltb-false, cases_order, cases_Bool, both_ways}
@@ -71,7 +71,7 @@ module _ (acts props : List (List ℕ)) where
   abbrev Fits : Step → Type 0
   Fits s = fits (length acts) (length props) s ≡ true
 
-  lasso_fits : (steps : List Step) (stem : ℕ) → IsLasso (length acts) (length props) steps stem → All Fits steps
+  lasso_fits : (steps : List Step) (stem : ℕ) → IsLasso (length acts) (length props) steps stem → AllByRecursion Fits steps
   lasso_fits steps stem l = All-from_get_or Fits steps _ l.declared
 
   -- lines that are read make a text
@@ -86,7 +86,7 @@ module _ (acts props : List (List ℕ)) where
       ∙ sym (append_assoc (worded (words_of acts props (ltb i stem) s.step)) (10 ∷ []) (lines_from acts props stem (suc i) (map step_of ss)))
       ∙ ap (λ (v : List ℕ). v ++ lines_from acts props stem (suc i) (map step_of ss)) (line_agree acts props (ltb i stem) s.step r.shaped.marks)
 
-  read_fits : {ls : List (List ℕ)} {ss : List StepLine} → AllRead acts props ls ss → All Fits (map step_of ss)
+  read_fits : {ls : List (List ℕ)} {ss : List StepLine} → AllRead acts props ls ss → AllByRecursion Fits (map step_of ss)
   read_fits none = tt
   read_fits (more r x) = (r.fit, read_fits x)
 
@@ -125,7 +125,7 @@ module _ (acts props : List (List ℕ)) where
       }
 
   module _ (a : Apart acts) (b : Apart props) where
-    text_read : (stem i : ℕ) (steps : List Step) → All Fits steps → AllRead acts props (pieces 10 (lines_from acts props stem i steps)) (lines_of stem i steps)
+    text_read : (stem i : ℕ) (steps : List Step) → AllByRecursion Fits steps → AllRead acts props (pieces 10 (lines_from acts props stem i steps)) (lines_of stem i steps)
     text_read stem i [] h = none
     text_read stem i (s ∷ ss) h =
         let line = worded (words_of acts props (ltb i stem) s) in

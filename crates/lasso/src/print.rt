@@ -1,6 +1,6 @@
 // Writing a lasso's text: a line for each step.
 ghost use Rattle.std.specs.Prelude.{◌≡◌, ◌+◌, ◌^◌, ◌<◌, ◌≤◌, cond, [], ◌∷◌, length, if◌then◌else◌, codes, MatchOption, slice_set};
-ghost use Rattle.std.specs.List.{AllByRecursion as All};
+ghost use Rattle.std.specs.List.{AllByRecursion};
 ghost use Rattle.program.specs.Names.{Named, spelled};
 ghost use Rattle.document.specs.Kept.{names_of};
 ghost use Rattle.lasso.specs.DeclaredNames.{acts_of, props_of};
@@ -160,7 +160,7 @@ pub fn print(document: &Document, steps: &[Step], stem: usize, text: &mut [u8]) 
     requires { length steps.now ≤ 131072 }
     ensures untouched { MatchOption result (text.new ≡ text.old) (λ _. Unit {0}) }
     ensures words { IsLasso document.now.declared.acts.count document.now.declared.props.count steps.now stem → Printed (worded_lasso (acts_of document.now.declared) (props_of document.now.declared) steps.now stem) text.old text.new result }
-    ensures text { IsLasso document.now.declared.acts.count document.now.declared.props.count steps.now stem → All Named (props_of document.now.declared) → Printed (lasso_text (acts_of document.now.declared) (props_of document.now.declared) steps.now stem) text.old text.new result }
+    ensures text { IsLasso document.now.declared.acts.count document.now.declared.props.count steps.now stem → AllByRecursion Named (props_of document.now.declared) → Printed (lasso_text (acts_of document.now.declared) (props_of document.now.declared) steps.now stem) text.old text.new result }
 {
     let needed = write(document, steps, stem, &mut []);
     if needed > text.len() {

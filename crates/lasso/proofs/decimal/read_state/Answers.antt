@@ -1,5 +1,5 @@
 use Rattle.std.proofs.Common.{take, ap, ◌∙◌, subst, ⊎_elim, arith}
-use Rattle.std.specs.List.{AllByRecursion as All}
+use Rattle.std.specs.List.{AllByRecursion}
 use Rattle.std.proofs.lemmas.List.{length-take-le, take_all}
 use Rattle.std.proofs.ByRecursion.{All-more}
 use Rattle.lasso.proofs.Decimals.{number, number_more, number_small, Digit, Numeral, numeral_is}
@@ -27,7 +27,7 @@ pub returns-else-value-gt4095 : goal.returns-else-value-gt4095
 returns-else-value-gt4095 c =
     let field = c.args.field.now in
     let all = take_all c.loop-k.k field (omega arith) in
-    let digits = subst (All Digit) all c.loop-k.invariant.1 in
+    let digits = subst (AllByRecursion Digit) all c.loop-k.invariant.1 in
     let numeral : Numeral field = record {
       some = omega arith;
       few = omega arith;
