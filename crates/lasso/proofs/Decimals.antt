@@ -1,6 +1,6 @@
 -- Numbers in decimal, digit by digit.
 use Rattle.std.proofs.Common.{◌≡◌, ℕ, ◌+◌, ◌-◌, ◌*◌, ◌/◌, ◌%◌, ◌<◌, ◌≤◌, List, [], ◌∷◌, ◌++◌, length, get_or, take, sym, refl, ap, ◌∙◌, subst, ⊎_elim, arith}
-use Rattle.std.specs.List.{AllByRecursion as All}
+use Rattle.std.specs.List.{AllByRecursion}
 use Rattle.std.proofs.lemmas.List.{take_more}
 use Rattle.std.proofs.lemmas.Bool.{cases_lt, le-leb, lt-leb}
 use Rattle.lasso.specs.LassoTexts.{decimal}
@@ -21,7 +21,7 @@ number_more field k h = ap (number 0) (take_more field k 0 h) ∙ number_push 0 
 abbrev pub Digit : ℕ → Type 0
 Digit b = (48 ≤ b) × (b ≤ 57)
 
-pub number_small : (ds : List ℕ) → length ds ≤ 3 → All Digit ds → number 0 ds ≤ 999
+pub number_small : (ds : List ℕ) → length ds ≤ 3 → AllByRecursion Digit ds → number 0 ds ≤ 999
 number_small [] h all = omega arith
 number_small (a ∷ []) h all = omega (arith, all.0)
 number_small (a ∷ b ∷ []) h all = omega (arith, all.0, all.1.0)
@@ -33,7 +33,7 @@ pub record Numeral (field : List ℕ) : Type 0 where
   pub some : 0 < length field
   pub few : length field ≤ 4
   pub head : 1 < length field → get_or field 0 0 ≡ 48 → ⊥
-  pub digits : All Digit field
+  pub digits : AllByRecursion Digit field
 
 module _ (n : ℕ) where
   one : n < 10 → decimal n ≡ (48 + n) ∷ []

@@ -1,7 +1,7 @@
 -- Every text has an outcome.
 use Rattle.std.proofs.Common.{◌≡◌, ℕ, zero, suc, ◌+◌, ◌^◌, ◌<◌, Bool, true, false, ◌⊎◌, List, [], ◌∷◌, ◌++◌, map, length, get_or, codes, sym, refl, ap, ◌∙◌, subst, inl, inr, ⊎_elim, append_assoc, append-nil, arith}
 use lib.Bits.{bit_or}
-use Rattle.std.specs.List.{AllByRecursion as All}
+use Rattle.std.specs.List.{AllByRecursion}
 use Rattle.std.proofs.ByRecursion.{All-get_or, All-from_get_or}
 use Rattle.std.proofs.lemmas.Bool.{cases_eq, cases_lt, cases_Bool, both_ways}
 use Rattle.program.specs.Names.{letter, naming, Named, Missing, Number}
@@ -37,7 +37,7 @@ same_bytes (x ∷ xs) (y ∷ ys) =
     tail (x ∷ xs) = xs
 
 -- a list of bytes is a name or none
-all_naming : (bs : List ℕ) → All (λ b. naming b ≡ true) bs ⊎ (All (λ b. naming b ≡ true) bs → ⊥)
+all_naming : (bs : List ℕ) → AllByRecursion (λ b. naming b ≡ true) bs ⊎ (AllByRecursion (λ b. naming b ≡ true) bs → ⊥)
 all_naming [] = inl tt
 all_naming (b ∷ bs) =
     ⊎_elim (λ p. ⊎_elim (λ q. inl (p, q)) (λ q. inr (λ h. q h.1)) (all_naming bs)) (λ p. inr (λ h. both_ways (naming b) p h.0)) (cases_Bool (naming b))
@@ -75,13 +75,13 @@ mark_or_none props n m =
     (λ h. inr (inl h)) (name_or_none n)
 
 marks_or_none : (props ns rest : List (List ℕ)) (m : Marks) → Taken props ns m
-    → ((new : Marks) × Taken props (ns ++ rest) new) ⊎ (All Named (ns ++ rest) → Ordered props (ns ++ rest) → ⊥)
+    → ((new : Marks) × Taken props (ns ++ rest) new) ⊎ (AllByRecursion Named (ns ++ rest) → Ordered props (ns ++ rest) → ⊥)
 marks_or_none props ns [] m t = inl (m, subst (λ (l : List (List ℕ)). Taken props l m) (sym (append-nil ns)) t)
 marks_or_none props ns (n ∷ rest) m t =
     ⊎_elim
     (λ a.
     let e : (ns ++ n ∷ []) ++ rest ≡ ns ++ n ∷ rest = append_assoc ns (n ∷ []) rest in
-    let P : List (List ℕ) → Type 0 = λ l. ((new : Marks) × Taken props l new) ⊎ (All Named l → Ordered props l → ⊥) in
+    let P : List (List ℕ) → Type 0 = λ l. ((new : Marks) × Taken props l new) ⊎ (AllByRecursion Named l → Ordered props l → ⊥) in
     subst P e (marks_or_none props (ns ++ n ∷ []) rest a.0 (taken_more props ns n m t a.0 a.1)))
     (λ r. inr (taken_refused props ns n m t r rest))
     (mark_or_none props n m)
@@ -94,10 +94,10 @@ field_or_none props field =
     (λ r. inr (other dash r)) (marks_or_none props [] (pieces 44 field) (record { mask = 0; declared = true; floor = 0 }) (taken_none props)))
     (same_bytes field (45 ∷ []))
   where
-    other : (field ≡ 45 ∷ [] → ⊥) → (All Named (pieces 44 field) → Ordered props (pieces 44 field) → ⊥) → NoMarks props field
+    other : (field ≡ 45 ∷ [] → ⊥) → (AllByRecursion Named (pieces 44 field) → Ordered props (pieces 44 field) → ⊥) → NoMarks props field
     other dash r [] all ord is = dash is
     other dash r (v ∷ vs) all ord is =
-        let e : v ∷ vs ≡ pieces 44 field = sym (joined_pieces v vs all) ∙ ap (pieces 44) (sym is) in r (subst (All Named) e all) (subst (Ordered props) e ord)
+        let e : v ∷ vs ≡ pieces 44 field = sym (joined_pieces v vs all) ∙ ap (pieces 44) (sym is) in r (subst (AllByRecursion Named) e all) (subst (Ordered props) e ord)
 
 state_or_none : (field : List ℕ) (k : ℕ) → ((n : ℕ) × (n < k) × (field ≡ decimal n)) ⊎ ((n : ℕ) → n < k → field ≡ decimal n → ⊥)
 state_or_none field zero = inr (λ n h. absurd (omega arith))

@@ -1,7 +1,7 @@
 -- Worked examples: a lasso of three steps with a stem of one, read around its loop, and texts.
 use Rattle.std.proofs.Common.{◌≡◌, [], ◌∷◌, codes, refl, arith}
 use Rattle.lasso.specs.Readings.{Lasso, place, blank_moment}
-use Rattle.lasso.specs.LassoTexts.{decimal, marked, joined}
+use Rattle.lasso.specs.LassoTexts.{decimal, marks_text, marked, joined}
 
 three : Lasso
 three = record { steps = blank_moment ∷ blank_moment ∷ blank_moment ∷ []; stem = 1; short = omega arith }
@@ -27,11 +27,21 @@ large_text : decimal 4095 ≡ codes "4095"
 large_text = refl
 
 -- marks: none, the second alone, both
-no_marks : joined (marked (codes "p" ∷ codes "q" ∷ []) 0 0) ≡ codes "-"
+no_marks : marks_text (codes "p" ∷ codes "q" ∷ []) 0 ≡ codes "-"
 no_marks = refl
 
-second_mark : joined (marked (codes "p" ∷ codes "q" ∷ []) 0 2) ≡ codes "q"
+second_mark : marks_text (codes "p" ∷ codes "q" ∷ []) 2 ≡ codes "q"
 second_mark = refl
 
-both_marks : joined (marked (codes "p" ∷ codes "q" ∷ []) 0 3) ≡ codes "p,q"
+both_marks : marks_text (codes "p" ∷ codes "q" ∷ []) 3 ≡ codes "p,q"
 both_marks = refl
+
+-- the same, name by name
+no_names : joined (marked (codes "p" ∷ codes "q" ∷ []) 0 0) ≡ codes "-"
+no_names = refl
+
+second_name : joined (marked (codes "p" ∷ codes "q" ∷ []) 0 2) ≡ codes "q"
+second_name = refl
+
+both_names : joined (marked (codes "p" ∷ codes "q" ∷ []) 0 3) ≡ codes "p,q"
+both_names = refl

@@ -11,7 +11,7 @@ use Rattle.document.proofs.Formulas.{formula_is}
 use Rattle.lasso.specs.Judged.{holds_by, Plain, Judged}
 use Rattle.lasso.specs.Lassos.{step_in}
 use Rattle.lasso.specs.Readings.{Reading, Truth}
-use Rattle.lasso.specs.Rounds.{next_place, tells, Reaches}
+use Rattle.lasso.specs.Rounds.{next_place, Reaches}
 use Rattle.lasso.specs.Sessions.{reading}
 use Rattle.lasso.specs.declared.step.Step.{Step}
 use Rattle.lasso.proofs.Alike.{truth_like}

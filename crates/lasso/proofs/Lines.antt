@@ -2,7 +2,7 @@
 use Rattle.std.proofs.Common.{◌≡◌, ℕ, suc, ◌+◌, ◌<◌, Bool, true, false, cond, ltb, List, [], ◌∷◌, ◌++◌, length, get_or, take, codes, sym, refl, ap, ◌∙◌, append_assoc, append-nil, arith}
 use Rattle.std.proofs.lemmas.List.{take_more, length-take-le}
 use Rattle.std.proofs.lemmas.Bool.{true≢false, false≢true}
-use Rattle.lasso.specs.LassoTexts.{marked, each_after, joined, step_line, lines_from}
+use Rattle.lasso.specs.LassoTexts.{marked, each_after, joined, worded_line, worded_lines}
 use Rattle.lasso.specs.Sessions.{bit_of}
 use Rattle.lasso.specs.declared.step.Step.{Step}
 use Rattle.lasso.proofs.Written.{Wrote, wrote_then, wrote_as}
@@ -78,14 +78,14 @@ kind_length false = refl
 
 module _ (acts props : List (List ℕ)) (stem : ℕ) where
   lines_push : (ss : List Step) (s : Step) (i k : ℕ) → k ≡ i + length ss
-      → lines_from acts props stem i (ss ++ s ∷ []) ≡ lines_from acts props stem i ss ++ step_line acts props (ltb k stem) s
-  lines_push [] s i k is = append-nil (step_line acts props (ltb i stem) s) ∙ ap (λ (j : ℕ). step_line acts props (ltb j stem) s) (omega arith)
+      → worded_lines acts props stem i (ss ++ s ∷ []) ≡ worded_lines acts props stem i ss ++ worded_line acts props (ltb k stem) s
+  lines_push [] s i k is = append-nil (worded_line acts props (ltb i stem) s) ∙ ap (λ (j : ℕ). worded_line acts props (ltb j stem) s) (omega arith)
   lines_push (x ∷ ss) s i k is =
-      ap (λ (l : List ℕ). step_line acts props (ltb i stem) x ++ l) (lines_push ss s (suc i) k (omega arith))
-      ∙ sym (append_assoc (step_line acts props (ltb i stem) x) (lines_from acts props stem (suc i) ss) (step_line acts props (ltb k stem) s))
+      ap (λ (l : List ℕ). worded_line acts props (ltb i stem) x ++ l) (lines_push ss s (suc i) k (omega arith))
+      ∙ sym (append_assoc (worded_line acts props (ltb i stem) x) (worded_lines acts props stem (suc i) ss) (worded_line acts props (ltb k stem) s))
 
   pub lines_more : (steps : List Step) (i : ℕ) (d : Step) → i < length steps
-      → lines_from acts props stem 0 (take (i + 1) steps) ≡ lines_from acts props stem 0 (take i steps) ++ step_line acts props (ltb i stem) (get_or steps i d)
+      → worded_lines acts props stem 0 (take (i + 1) steps) ≡ worded_lines acts props stem 0 (take i steps) ++ worded_line acts props (ltb i stem) (get_or steps i d)
   lines_more steps i d h =
-      ap (λ (l : List Step). lines_from acts props stem 0 l) (take_more steps i d h)
+      ap (λ (l : List Step). worded_lines acts props stem 0 l) (take_more steps i d h)
       ∙ lines_push (take i steps) (get_or steps i d) 0 i (omega (arith, length-take-le i steps (omega arith)))

@@ -1,7 +1,7 @@
 -- Marks read name by name, and the mask that stands for them.
 use Rattle.std.proofs.Common.{◌≡◌, ℕ, suc, ◌+◌, ◌-◌, ◌^◌, ◌<◌, ◌≤◌, Bool, true, false, cond, ◌⊎◌, ◌↔◌, List, [], ◌∷◌, ◌++◌, length, get_or, take, drop, sym, refl, ap, ◌∙◌, subst, inl, inr, ⊎_elim, append_assoc, append-nil, arith}
 use lib.Bits.{bit_or}
-use Rattle.std.specs.List.{AllByRecursion as All}
+use Rattle.std.specs.List.{AllByRecursion}
 use Rattle.std.proofs.lemmas.Nat.{pow_below, or_lt}
 use Rattle.std.proofs.ByRecursion.{All-append, All-get_or}
 use Rattle.std.proofs.lemmas.List.{take-append-drop, take-take, length-take-le, get_or_append_left, get_or_push, get_or_at, length_push, length-append, take_rest}
@@ -77,7 +77,7 @@ mask_more props f p m h l s =
 
 -- names that were read, and the marks of them
 pub record Taken (props ns : List (List ℕ)) (m : Marks) : Type 0 where
-  pub named : All Named ns
+  pub named : AllByRecursion Named ns
   pub ordered : Ordered props ns
   pub below : (i a : ℕ) → i < length ns → Number props (get_or ns i []) a → a < m.floor
   pub top : (m.floor ≡ 0) ⊎ ((i : ℕ) × (a : ℕ) × (i < length ns) × Number props (get_or ns i []) a × (m.floor ≡ a + 1))
@@ -148,7 +148,7 @@ module _ (props ns : List (List ℕ)) (n : List ℕ) (m : Marks) (t : Taken prop
       ⊎_elim (λ x. subst P (sym x.1) (taken_other a.0 x.0)) (λ x. subst P (sym x.3) (taken_next x.0 a.0 x.1 x.2)) a.1
 
   -- no names that begin so are in order
-  pub taken_refused : RefusesMark props n m → (rest : List (List ℕ)) → All Named (ns ++ n ∷ rest) → Ordered props (ns ++ n ∷ rest) → ⊥
+  pub taken_refused : RefusesMark props n m → (rest : List (List ℕ)) → AllByRecursion Named (ns ++ n ∷ rest) → Ordered props (ns ++ n ∷ rest) → ⊥
   taken_refused r rest all ord =
       let here : get_or (ns ++ n ∷ rest) (length ns) [] ≡ n = get_or_at ns n rest [] (length ns) refl in
       let long = length-append ns (n ∷ rest) in
@@ -223,7 +223,7 @@ module _ (text : List ℕ) (at end : ℕ) (low : at ≤ end) (high : end ≤ len
       let n = take (end - at) (drop at text) in
       let next = next_piece w.rest w.left in
       let e : v ∷ vs ≡ w.read ++ n ∷ next.0 = sym (joined_pieces v vs all) ∙ ap (pieces 44) (sym is) ∙ w.all ∙ ap (λ (q : List (List ℕ)). w.read ++ q) next.1 in
-      taken_refused props w.read n m w.taken r next.0 (subst (All Named) e all) (subst (Ordered props) e ord)
+      taken_refused props w.read n m w.taken r next.0 (subst (AllByRecursion Named) e all) (subst (Ordered props) e ord)
 
 pub together_joined : (ps : List (List ℕ)) → 0 < length ps → joined ps ≡ together 44 ps
 together_joined [] h = absurd (omega arith)

@@ -1,6 +1,6 @@
 -- The names of a document that was loaded are well formed, and no two of one kind alike.
 use Rattle.std.proofs.Common.{◌≡◌, ℕ, ◌<◌, List, [], ◌∷◌, ◌++◌, length, get_or, sym, ◌∙◌, subst, ⊎_elim, arith}
-use Rattle.std.specs.List.{AllByRecursion as All}
+use Rattle.std.specs.List.{AllByRecursion}
 use Rattle.std.proofs.ByRecursion.{All-push}
 use Rattle.std.proofs.lemmas.List.{get_or_append_left, get_or_push, length_push}
 use Rattle.std.proofs.lemmas.Bool.{cases_lt}
@@ -24,7 +24,7 @@ apart_push names n a h miss = record { named = All-push Named names n a.named h;
 abbrev Both : Declarations → Type 0
 Both d = Apart d.acts × Apart d.props
 
-line_apart : (d e : Declarations) (x : Line) → All Named (named_fields x) → NewName d x → Adds d x e → Both d → Both e
+line_apart : (d e : Declarations) (x : Line) → AllByRecursion Named (named_fields x) → NewName d x → Adds d x e → Both d → Both e
 line_apart d e (act_line n) h new is x = subst Both (sym is) (apart_push d.acts n x.0 h.0 new, x.1)
 line_apart d e (prop_line n) h new is x = subst Both (sym is) (x.0, apart_push d.props n x.1 h.0 new)
 line_apart d e (goal_line f) h new is x = absurd is

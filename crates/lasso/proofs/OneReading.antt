@@ -1,6 +1,6 @@
 -- A line has one reading, where the names declared are well formed and no two alike.
 use Rattle.std.proofs.Common.{◌≡◌, ℕ, zero, suc, ◌+◌, ◌*◌, ◌/◌, ◌%◌, ◌^◌, ◌<◌, ◌≤◌, Bool, true, ◌&&◌, eqb, ltb, leb, List, [], ◌∷◌, length, get_or, sym, refl, ap, ◌∙◌, subst, ⊎_elim, zero-add, arith}
-use Rattle.std.specs.List.{AllByRecursion as All}
+use Rattle.std.specs.List.{AllByRecursion}
 use Rattle.std.proofs.lemmas.Nat.{pow_below, pow_pos, div-add-mod', mod_below}
 use Rattle.std.proofs.ByRecursion.{All-get_or}
 use Rattle.std.proofs.lemmas.Bool.{and_parts, ltb-true, leb-true, eqb-true, eq-eqb, ne_eqb, cases_lt, cases_eq, cases_order, cond-true, cond-false}
@@ -69,9 +69,9 @@ marked_has (x ∷ xs) q m (suc k) h b =
     let r = marked_has xs (suc q) m k (omega arith) (subst (Bit m) (omega arith) b) in
     marked_cases (λ v. (i : ℕ) × (i < length v) × (get_or v i [] ≡ get_or xs k [])) x xs q m (λ e. (suc r.0, omega (arith, r.1), r.2)) (λ e. r)
 
-marked_all : (P : List ℕ → Type 0) (xs : List (List ℕ)) (q m : ℕ) → All P xs → All P (marked xs q m)
+pub marked_all : (P : List ℕ → Type 0) (xs : List (List ℕ)) (q m : ℕ) → AllByRecursion P xs → AllByRecursion P (marked xs q m)
 marked_all P [] q m h = tt
-marked_all P (x ∷ xs) q m h = let r = marked_all P xs (suc q) m h.1 in marked_cases (All P) x xs q m (λ e. (h.0, r)) (λ e. r)
+marked_all P (x ∷ xs) q m h = let r = marked_all P xs (suc q) m h.1 in marked_cases (AllByRecursion P) x xs q m (λ e. (h.0, r)) (λ e. r)
 
 -- a name that is marked is declared
 pub marked_known : (props : List (List ℕ)) (m i : ℕ) → i < length (marked props 0 m) → Missing props (get_or (marked props 0 m) i []) → ⊥

@@ -1,6 +1,6 @@
 -- Pieces of a text, put together again.
 use Rattle.std.proofs.Common.{◌≡◌, ℕ, ◌<◌, eqb, List, [], ◌∷◌, ◌++◌, length, sym, refl, ap, ◌∙◌, subst, ⊎_elim, append-nil, arith}
-use Rattle.std.specs.List.{AllByRecursion as All}
+use Rattle.std.specs.List.{AllByRecursion}
 use Rattle.std.proofs.lemmas.Bool.{cond-true, cond-false, eq-eqb, ne_eqb, cases_eq}
 use Rattle.document.specs.Texts.{pieces, put_first}
 use Rattle.document.proofs.Pieces.{pieces_some}
@@ -8,7 +8,7 @@ use Rattle.lasso.specs.LassoTexts.{each_after}
 
 -- b stands nowhere in it
 abbrev pub Lacks : ℕ → List ℕ → Type 0
-Lacks b xs = All (λ x. x ≡ b → ⊥) xs
+Lacks b xs = AllByRecursion (λ x. x ≡ b → ⊥) xs
 
 pub pieces_next : (b : ℕ) (p rest : List ℕ) → Lacks b p → pieces b (p ++ b ∷ rest) ≡ p ∷ pieces b rest
 pieces_next b [] rest h = cond-true (eqb b b) _ _ (eq-eqb b b refl)
@@ -19,7 +19,7 @@ piece_whole b [] h = refl
 piece_whole b (x ∷ p) h = cond-false (eqb x b) _ _ (ne_eqb x b h.0) ∙ ap (put_first x) (piece_whole b p h.1)
 
 -- pieces that lack the byte are found again
-pub pieces_back : (b : ℕ) (p : List ℕ) (ps : List (List ℕ)) → Lacks b p → All (Lacks b) ps → pieces b (p ++ each_after b ps) ≡ p ∷ ps
+pub pieces_back : (b : ℕ) (p : List ℕ) (ps : List (List ℕ)) → Lacks b p → AllByRecursion (Lacks b) ps → pieces b (p ++ each_after b ps) ≡ p ∷ ps
 pieces_back b p [] h t = ap (pieces b) (append-nil p) ∙ piece_whole b p h
 pieces_back b p (q ∷ ps) h t = pieces_next b p (q ++ each_after b ps) h ∙ ap {B = List (List ℕ)} (λ l. p ∷ l) (pieces_back b q ps t.0 t.1)
 
@@ -46,14 +46,14 @@ together_is b (x ∷ xs) =
     (cases_eq x b)
 
 -- no piece has the byte
-pub pieces_lack : (b : ℕ) (xs : List ℕ) → All (Lacks b) (pieces b xs)
+pub pieces_lack : (b : ℕ) (xs : List ℕ) → AllByRecursion (Lacks b) (pieces b xs)
 pieces_lack b [] = (tt, tt)
 pieces_lack b (x ∷ xs) =
     ⊎_elim
-    (λ e. subst (All (Lacks b)) (sym (cond-true (eqb x b) _ _ (eq-eqb x b e))) (tt, pieces_lack b xs))
-    (λ e. subst (All (Lacks b)) (sym (cond-false (eqb x b) _ _ (ne_eqb x b e))) (put (pieces b xs) e (pieces_lack b xs)))
+    (λ e. subst (AllByRecursion (Lacks b)) (sym (cond-true (eqb x b) _ _ (eq-eqb x b e))) (tt, pieces_lack b xs))
+    (λ e. subst (AllByRecursion (Lacks b)) (sym (cond-false (eqb x b) _ _ (ne_eqb x b e))) (put (pieces b xs) e (pieces_lack b xs)))
     (cases_eq x b)
   where
-    put : (ps : List (List ℕ)) → (x ≡ b → ⊥) → All (Lacks b) ps → All (Lacks b) (put_first x ps)
+    put : (ps : List (List ℕ)) → (x ≡ b → ⊥) → AllByRecursion (Lacks b) ps → AllByRecursion (Lacks b) (put_first x ps)
     put [] ne all = ((ne, tt), tt)
     put (p ∷ ps) ne all = ((ne, all.0), all.1)

@@ -1,6 +1,6 @@
 -- Texts of lassos: one outcome, one lasso.
 use Rattle.std.proofs.Common.{◌≡◌, ℕ, zero, suc, ◌+◌, ◌<◌, ◌≤◌, Bool, true, ltb, ◌⊎◌, List, [], ◌∷◌, ◌++◌, map, length, take, drop, sym, refl, ap, ◌∙◌, subst, inl, inr, ⊎_elim, append_assoc, arith}
-use Rattle.std.specs.List.{AllByRecursion as All}
+use Rattle.std.specs.List.{AllByRecursion}
 use Rattle.std.proofs.ByRecursion.{All-get_or, All-from_get_or}
 use Rattle.std.proofs.lemmas.List.{length-map, take_at, drop_at}
 use Rattle.std.proofs.lemmas.Bool.{lt-ltb, le-ltb, ltb-true, ltb-false, cases_order, cases_Bool, both_ways}
@@ -14,6 +14,7 @@ use Rattle.lasso.specs.Tallies.{Tallied, Surveyed, Filled}
 use Rattle.lasso.specs.declared.scan.StepLine.{StepLine}
 use Rattle.lasso.specs.declared.scan.Tally.{Tally}
 use Rattle.lasso.specs.declared.step.Step.{Step}
+use Rattle.lasso.proofs.Agree.{line_agree}
 use Rattle.lasso.proofs.OneReading.{words_shaped, words_known, reads_same, reads_fine, faulty_same, kind_same}
 use Rattle.lasso.proofs.Splits.{pieces_next, together, together_is}
 use Rattle.lasso.proofs.Worded.{worded_lacks}
@@ -70,7 +71,7 @@ module _ (acts props : List (List ℕ)) where
   abbrev Fits : Step → Type 0
   Fits s = fits (length acts) (length props) s ≡ true
 
-  lasso_fits : (steps : List Step) (stem : ℕ) → IsLasso (length acts) (length props) steps stem → All Fits steps
+  lasso_fits : (steps : List Step) (stem : ℕ) → IsLasso (length acts) (length props) steps stem → AllByRecursion Fits steps
   lasso_fits steps stem l = All-from_get_or Fits steps _ l.declared
 
   -- lines that are read make a text
@@ -83,8 +84,9 @@ module _ (acts props : List (List ℕ)) where
       ap (λ (v : List ℕ). v ++ 10 ∷ together 10 (m ∷ ms)) (r.text ∙ ap (λ (b : Bool). worded (words_of acts props b s.step)) kind)
       ∙ ap (λ (v : List ℕ). worded (words_of acts props (ltb i stem) s.step) ++ 10 ∷ v) rest
       ∙ sym (append_assoc (worded (words_of acts props (ltb i stem) s.step)) (10 ∷ []) (lines_from acts props stem (suc i) (map step_of ss)))
+      ∙ ap (λ (v : List ℕ). v ++ lines_from acts props stem (suc i) (map step_of ss)) (line_agree acts props (ltb i stem) s.step r.shaped.marks)
 
-  read_fits : {ls : List (List ℕ)} {ss : List StepLine} → AllRead acts props ls ss → All Fits (map step_of ss)
+  read_fits : {ls : List (List ℕ)} {ss : List StepLine} → AllRead acts props ls ss → AllByRecursion Fits (map step_of ss)
   read_fits none = tt
   read_fits (more r x) = (r.fit, read_fits x)
 
@@ -123,13 +125,14 @@ module _ (acts props : List (List ℕ)) where
       }
 
   module _ (a : Apart acts) (b : Apart props) where
-    text_read : (stem i : ℕ) (steps : List Step) → All Fits steps → AllRead acts props (pieces 10 (lines_from acts props stem i steps)) (lines_of stem i steps)
+    text_read : (stem i : ℕ) (steps : List Step) → AllByRecursion Fits steps → AllRead acts props (pieces 10 (lines_from acts props stem i steps)) (lines_of stem i steps)
     text_read stem i [] h = none
     text_read stem i (s ∷ ss) h =
         let line = worded (words_of acts props (ltb i stem) s) in
         let rest = lines_from acts props stem (suc i) ss in
         let e : pieces 10 (lines_from acts props stem i (s ∷ ss)) ≡ line ∷ pieces 10 rest =
-        ap (pieces 10) (append_assoc line (10 ∷ []) rest) ∙ pieces_next 10 line rest (worded_lacks (words_shaped acts props a b (ltb i stem) s h.0)) in
+        ap (λ (v : List ℕ). pieces 10 (v ++ rest)) (sym (line_agree acts props (ltb i stem) s (words_shaped acts props a b (ltb i stem) s h.0).marks))
+        ∙ ap (pieces 10) (append_assoc line (10 ∷ []) rest) ∙ pieces_next 10 line rest (worded_lacks (words_shaped acts props a b (ltb i stem) s h.0)) in
         subst (λ (l : List (List ℕ)). AllRead acts props l (lines_of stem i (s ∷ ss))) (sym e)
         (on line (pieces 10 rest) (record { fit = h.0; text = refl; shaped = words_shaped acts props a b (ltb i stem) s h.0; known = words_known acts props a b (ltb i stem) s h.0 }) (text_read stem (suc i) ss h.1))
       where

@@ -1,6 +1,6 @@
 -- The words of a line are found again in it.
 use Rattle.std.proofs.Common.{◌≡◌, ℕ, ◌<◌, ◌≤◌, Bool, true, false, cond, List, [], ◌∷◌, get_or, codes, sym, refl, ap, ◌∙◌, subst, arith}
-use Rattle.std.specs.List.{AllByRecursion as All}
+use Rattle.std.specs.List.{AllByRecursion}
 use Rattle.std.proofs.ByRecursion.{All-from_get_or, All-append, All-weaker}
 use Rattle.std.proofs.lemmas.Bool.{both_ways}
 use Rattle.program.specs.Names.{naming, Named}
@@ -17,11 +17,11 @@ named_lacks b f n h = All-from_get_or (λ x. x ≡ b → ⊥) n 0 (λ k l e. bot
 decimal_lacks : (b n : ℕ) → b < 48 → n ≤ 4095 → Lacks b (decimal n)
 decimal_lacks b n h l = All-weaker Digit (λ x. x ≡ b → ⊥) (λ x d e. omega (arith, d.0)) (decimal n) (decimal_spells n l).0.digits
 
-commas_lack : (b : ℕ) (ns : List (List ℕ)) → (44 ≡ b → ⊥) → All (Lacks b) ns → Lacks b (each_after 44 ns)
+commas_lack : (b : ℕ) (ns : List (List ℕ)) → (44 ≡ b → ⊥) → AllByRecursion (Lacks b) ns → Lacks b (each_after 44 ns)
 commas_lack b [] c h = tt
 commas_lack b (n ∷ ns) c h = (c, All-append (λ x. x ≡ b → ⊥) n (each_after 44 ns) h.0 (commas_lack b ns c h.1))
 
-joined_lacks : (b : ℕ) (ns : List (List ℕ)) → (44 ≡ b → ⊥) → (45 ≡ b → ⊥) → All (Lacks b) ns → Lacks b (joined ns)
+joined_lacks : (b : ℕ) (ns : List (List ℕ)) → (44 ≡ b → ⊥) → (45 ≡ b → ⊥) → AllByRecursion (Lacks b) ns → Lacks b (joined ns)
 joined_lacks b [] c d h = (d, tt)
 joined_lacks b (n ∷ ns) c d h = All-append (λ x. x ≡ b → ⊥) n (each_after 44 ns) h.0 (commas_lack b ns c h.1)
 
@@ -70,19 +70,19 @@ kind_same true false e = let z : ◌≡◌ {A = ℕ} 115 108 = ap (λ (l : List 
 kind_same false true e = let z : ◌≡◌ {A = ℕ} 108 115 = ap (λ (l : List ℕ). get_or l 0 0) e in absurd (omega arith)
 
 -- the pieces of names that are joined
-pub joined_pieces : (n : List ℕ) (ns : List (List ℕ)) → All Named (n ∷ ns) → pieces 44 (joined (n ∷ ns)) ≡ n ∷ ns
+pub joined_pieces : (n : List ℕ) (ns : List (List ℕ)) → AllByRecursion Named (n ∷ ns) → pieces 44 (joined (n ∷ ns)) ≡ n ∷ ns
 joined_pieces n ns h = pieces_back 44 n ns (named_lacks 44 refl n h.0) (All-weaker Named (Lacks 44) (named_lacks 44 refl) ns h.1)
 
 -- a dash is no name
 pub no_dash : Named (45 ∷ []) → ⊥
 no_dash h = both_ways (naming 45) refl (h.rest 0 (omega arith))
 
-dash_alone : (n : List ℕ) (ns : List (List ℕ)) → All Named (n ∷ ns) → joined (n ∷ ns) ≡ 45 ∷ [] → ⊥
+dash_alone : (n : List ℕ) (ns : List (List ℕ)) → AllByRecursion Named (n ∷ ns) → joined (n ∷ ns) ≡ 45 ∷ [] → ⊥
 dash_alone n ns h e =
     let p : n ∷ ns ≡ (45 ∷ []) ∷ [] = sym (joined_pieces n ns h) ∙ ap (pieces 44) e in
     no_dash (subst Named (ap (λ (l : List (List ℕ)). get_or l 0 []) p) h.0)
 
-pub joined_same : (ns ms : List (List ℕ)) → All Named ns → All Named ms → joined ns ≡ joined ms → ns ≡ ms
+pub joined_same : (ns ms : List (List ℕ)) → AllByRecursion Named ns → AllByRecursion Named ms → joined ns ≡ joined ms → ns ≡ ms
 joined_same [] [] h l e = refl
 joined_same [] (m ∷ ms) h l e = absurd (dash_alone m ms l (sym e))
 joined_same (n ∷ ns) [] h l e = absurd (dash_alone n ns h e)

@@ -1,6 +1,6 @@
 -- The lines of a lasso's text: what each of them spells, and which is refused first.
 use Rattle.std.specs.Prelude.{◌≡◌, ℕ, suc, ◌<◌, ◌≤◌, true, ◌⊎◌, List, [], ◌∷◌, length, ◌≢◌, slice_index_or}
-use Rattle.std.specs.List.{AllByRecursion as All}
+use Rattle.std.specs.List.{AllByRecursion}
 use Rattle.program.specs.Names.{Named, Missing, Number}
 use Rattle.lasso.specs.Lassos.{fits}
 use Rattle.lasso.specs.LassoTexts.{Words, worded, words_of}
@@ -8,7 +8,7 @@ use Rattle.lasso.specs.declared.scan.StepLine.{StepLine}
 
 -- the names of one kind: well formed, and no two alike
 pub record Apart (names : List (List ℕ)) : Type 0 where
-  pub named : All Named names
+  pub named : AllByRecursion Named names
   pub apart : (i j : ℕ) → i < j → j < length names → slice_index_or names i [] ≢ slice_index_or names j []
 
 -- the declared propositions among the names stand in their order, none of them twice
@@ -19,7 +19,7 @@ Ordered props names = (i j a b : ℕ) → i < j → j < length names → Number 
 pub record Shaped (props : List (List ℕ)) (w : Words) : Type 0 where
   pub action : Named w.action
   pub state : w.state ≤ 4095
-  pub marks : All Named w.marks
+  pub marks : AllByRecursion Named w.marks
   pub ordered : Ordered props w.marks
 
 -- the action or a mark is not declared

@@ -1,6 +1,6 @@
 -- The marks of a line, read name by name.
 use Rattle.std.specs.Prelude.{◌≡◌, ℕ, ◌+◌, ◌^◌, ◌<◌, ◌≤◌, true, false, ◌⊎◌, List, [], length, ◌≢◌, bit_or, slice_index_or}
-use Rattle.std.specs.List.{AllByRecursion as All}
+use Rattle.std.specs.List.{AllByRecursion}
 use Rattle.program.specs.Names.{Named, Missing, Number}
 use Rattle.lasso.specs.LassoTexts.{marked, joined}
 use Rattle.lasso.specs.LassoLines.{Ordered}
@@ -19,11 +19,11 @@ RefusesMark props name old = (Named name → ⊥) ⊎ ((p : ℕ) × Number props
 
 -- these names in this order: declared, and then the mask stands for them, or not all declared
 pub record MarksRead (props names : List (List ℕ)) (m : Marks) : Type 0 where
-  pub named : All Named names
+  pub named : AllByRecursion Named names
   pub ordered : Ordered props names
   pub known : m.declared ≡ true → (marked props 0 m.mask ≡ names) × (m.mask < 2 ^ length props)
   pub unknown : m.declared ≡ false → (i : ℕ) × (i < length names) × Missing props (slice_index_or names i [])
 
 -- the field is no names in order, joined by commas, and no dash
 abbrev pub NoMarks : List (List ℕ) → List ℕ → Type 0
-NoMarks props field = (names : List (List ℕ)) → All Named names → Ordered props names → field ≢ joined names
+NoMarks props field = (names : List (List ℕ)) → AllByRecursion Named names → Ordered props names → field ≢ joined names

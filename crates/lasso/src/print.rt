@@ -1,10 +1,11 @@
 // Writing a lasso's text: a line for each step.
-ghost use Rattle.std.specs.Prelude.{◌≡◌, ◌+◌, ◌^◌, ◌<◌, ◌≤◌, cond, [], ◌∷◌, length, if◌then◌else◌, codes, slice_set};
-ghost use Rattle.program.specs.Names.{spelled};
+ghost use Rattle.std.specs.Prelude.{◌≡◌, ◌+◌, ◌^◌, ◌<◌, ◌≤◌, cond, [], ◌∷◌, length, if◌then◌else◌, codes, MatchOption, slice_set};
+ghost use Rattle.std.specs.List.{AllByRecursion};
+ghost use Rattle.program.specs.Names.{Named, spelled};
 ghost use Rattle.document.specs.Kept.{names_of};
 ghost use Rattle.lasso.specs.DeclaredNames.{acts_of, props_of};
 ghost use Rattle.lasso.specs.Lassos.{IsLasso};
-ghost use Rattle.lasso.specs.LassoTexts.{decimal, joined, marked, step_line, lasso_text};
+ghost use Rattle.lasso.specs.LassoTexts.{decimal, joined, marked, worded_line, worded_lasso, lasso_text};
 ghost use Rattle.lasso.specs.Written.{written, Printed};
 
 use crate::step::Step;
@@ -64,7 +65,7 @@ fn put_name(text: &mut [u8], at: usize, name: Name) -> usize
     next
 }
 
-// A digit, if it is shown.
+// A digit, left out where it is 0 and no other stands before it.
 fn put_digit(text: &mut [u8], at: usize, digit: u16, shown: bool) -> usize
     requires { (at < 2 ^ 39) × (digit < 10) }
     ensures next { result ≡ at + length (if shown then (48 + digit) ∷ [] else []) }
@@ -79,12 +80,13 @@ fn put_digit(text: &mut [u8], at: usize, digit: u16, shown: bool) -> usize
 
 // A state in decimal, without leading zeros.
 fn put_state(text: &mut [u8], at: usize, state: u16) -> usize
-    requires { (at < 2 ^ 38) × (state ≤ 4095) }
-    ensures next { result ≡ at + length (decimal state) }
-    ensures few { result ≤ at + 4 }
-    ensures text { text.new ≡ written text.old at (decimal state) }
+    requires { at < 2 ^ 38 }
+    ensures few { (at ≤ result) × (result ≤ at + 5) }
+    ensures next { state < 10000 → result ≡ at + length (decimal state) }
+    ensures text { state < 10000 → text.new ≡ written text.old at (decimal state) }
 {
-    let thousands = put_digit(text, at, state / 1000, state >= 1000);
+    let myriads = put_digit(text, at, state / 10000, state >= 10000);
+    let thousands = put_digit(text, myriads, state / 1000 % 10, state >= 1000);
     let hundreds = put_digit(text, thousands, state / 100 % 10, state >= 100);
     let tens = put_digit(text, hundreds, state / 10 % 10, state >= 10);
     put_digit(text, tens, state % 10, true)
@@ -92,7 +94,7 @@ fn put_state(text: &mut [u8], at: usize, state: u16) -> usize
 
 // A name, after a comma if it is not the first.
 fn put_mark(text: &mut [u8], at: usize, name: Name, first: bool) -> usize
-    requires { at < 2 ^ 38 }
+    requires { at + 1 < 2 ^ 39 }
     ensures next { result ≡ at + length (if first then spelled name else 44 ∷ spelled name) }
     ensures few { result ≤ at + 17 }
     ensures text { text.new ≡ written text.old at (if first then spelled name else 44 ∷ spelled name) }
@@ -106,7 +108,7 @@ fn put_mark(text: &mut [u8], at: usize, name: Name, first: bool) -> usize
 
 // Marks in proposition order joined by commas, or `-`.
 fn put_marks(text: &mut [u8], at: usize, props: &Names, marks: u16) -> usize
-    requires { (at < 2 ^ 37) × (props.now.count ≤ 16) }
+    requires { (at < 2 ^ 38) × (props.now.count ≤ 16) }
     ensures next { result ≡ at + length (joined (marked (names_of props.now) 0 marks)) }
     ensures few { result ≤ at + 273 }
     ensures text { text.new ≡ written text.old at (joined (marked (names_of props.now) 0 marks)) }
@@ -124,10 +126,10 @@ fn put_marks(text: &mut [u8], at: usize, props: &Names, marks: u16) -> usize
 
 // The line of one step.
 fn put_step(text: &mut [u8], at: usize, declared: &Declared, step: Step, in_stem: bool) -> usize
-    requires { (at < 2 ^ 36) × ((step.state ≤ 4095) × (step.action < declared.now.acts.count)) }
-    ensures next { result ≡ at + length (step_line (acts_of declared.now) (props_of declared.now) in_stem step) }
-    ensures few { result ≤ at + 301 }
-    ensures text { text.new ≡ written text.old at (step_line (acts_of declared.now) (props_of declared.now) in_stem step) }
+    requires { at < 2 ^ 37 }
+    ensures few { (at ≤ result) × (result ≤ at + 302) }
+    ensures next { step.state < 10000 → step.action < declared.now.acts.count → result ≡ at + length (worded_line (acts_of declared.now) (props_of declared.now) in_stem step) }
+    ensures text { step.state < 10000 → step.action < declared.now.acts.count → text.new ≡ written text.old at (worded_line (acts_of declared.now) (props_of declared.now) in_stem step) }
 {
     let kind = put_kind(text, at, in_stem);
     let kind_end = put(text, kind, b'\t');
@@ -141,9 +143,9 @@ fn put_step(text: &mut [u8], at: usize, declared: &Declared, step: Step, in_stem
 
 // Writes as much of the lasso's text as there is room for. Answers the length of all of it.
 fn write(document: &Document, steps: &[Step], stem: usize, text: &mut [u8]) -> usize
-    requires { IsLasso document.now.declared.acts.count document.now.declared.props.count steps.now stem }
-    ensures length { result ≡ length (lasso_text (acts_of document.now.declared) (props_of document.now.declared) steps.now stem) }
-    ensures text { text.new ≡ written text.old 0 (lasso_text (acts_of document.now.declared) (props_of document.now.declared) steps.now stem) }
+    requires { length steps.now ≤ 131072 }
+    ensures length { IsLasso document.now.declared.acts.count document.now.declared.props.count steps.now stem → result ≡ length (worded_lasso (acts_of document.now.declared) (props_of document.now.declared) steps.now stem) }
+    ensures text { IsLasso document.now.declared.acts.count document.now.declared.props.count steps.now stem → text.new ≡ written text.old 0 (worded_lasso (acts_of document.now.declared) (props_of document.now.declared) steps.now stem) }
 {
     let declared = document.declared();
     let mut at = 0;
@@ -155,8 +157,10 @@ fn write(document: &Document, steps: &[Step], stem: usize, text: &mut [u8]) -> u
 
 // Writes the lasso's text into the first bytes, and answers its length; where it does not fit, nothing is written.
 pub fn print(document: &Document, steps: &[Step], stem: usize, text: &mut [u8]) -> Option<usize>
-    requires { IsLasso document.now.declared.acts.count document.now.declared.props.count steps.now stem }
-    ensures { Printed (lasso_text (acts_of document.now.declared) (props_of document.now.declared) steps.now stem) text.old text.new result }
+    requires { length steps.now ≤ 131072 }
+    ensures untouched { MatchOption result (text.new ≡ text.old) (λ _. Unit {0}) }
+    ensures words { IsLasso document.now.declared.acts.count document.now.declared.props.count steps.now stem → Printed (worded_lasso (acts_of document.now.declared) (props_of document.now.declared) steps.now stem) text.old text.new result }
+    ensures text { IsLasso document.now.declared.acts.count document.now.declared.props.count steps.now stem → AllByRecursion Named (props_of document.now.declared) → Printed (lasso_text (acts_of document.now.declared) (props_of document.now.declared) steps.now stem) text.old text.new result }
 {
     let needed = write(document, steps, stem, &mut []);
     if needed > text.len() {

@@ -1,18 +1,18 @@
 use Rattle.std.proofs.Common.{take, ap, ◌∙◌, subst, ⊎_elim, arith}
-use Rattle.std.specs.List.{AllByRecursion as All}
+use Rattle.std.specs.List.{AllByRecursion}
 use Rattle.std.proofs.lemmas.List.{length-take-le, take_all}
 use Rattle.std.proofs.ByRecursion.{All-more}
 use Rattle.lasso.proofs.Decimals.{number, number_more, number_small, Digit, Numeral, numeral_is}
 use Rattle.lasso.proofs.decimal.read_state.Goals as goal
 
-pub overflow-mul-value : goal.overflow-mul-value
-overflow-mul-value c =
+pub overflow_mul-value : goal.overflow_mul-value
+overflow_mul-value c =
     let field = c.args.field.now in
     let ds = take c.loop-k.k field in
     let small = number_small ds (omega (arith, length-take-le c.loop-k.k field (omega arith))) c.loop-k.invariant.1 in omega arith
 
-pub overflow-add-value : goal.overflow-add-value
-overflow-add-value c =
+pub overflow_add-value : goal.overflow_add-value
+overflow_add-value c =
     let field = c.args.field.now in
     let ds = take c.loop-k.k field in
     let small = number_small ds (omega (arith, length-take-le c.loop-k.k field (omega arith))) c.loop-k.invariant.1 in omega arith
@@ -27,7 +27,7 @@ pub returns-else-value-gt4095 : goal.returns-else-value-gt4095
 returns-else-value-gt4095 c =
     let field = c.args.field.now in
     let all = take_all c.loop-k.k field (omega arith) in
-    let digits = subst (All Digit) all c.loop-k.invariant.1 in
+    let digits = subst (AllByRecursion Digit) all c.loop-k.invariant.1 in
     let numeral : Numeral field = record {
       some = omega arith;
       few = omega arith;

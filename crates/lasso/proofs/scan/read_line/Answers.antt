@@ -1,5 +1,5 @@
 use Rattle.std.proofs.Common.{◌≡◌, ℕ, List, sym, refl, ◌∙◌, subst}
-use Rattle.std.proofs.lemmas.Bool.{false≢true, not_true, not-false}
+use Rattle.std.proofs.lemmas.Bool.{false≢true, not-true, not-false}
 use Rattle.program.specs.Names.{Missing, Number}
 use Rattle.document.specs.Faults.{line_fault_code}
 use Rattle.document.specs.Kept.{names_of}
@@ -61,7 +61,7 @@ returns-then-not-marks c =
     fault_unknown_mark (acts_of c.args.declared.now) (props_of c.args.declared.now) c.args.line.now c.in_ok-in_stem.in_stem
     c.field-name.result.now c.field-2.result.now c.field-3.result.now c.in-Some.state m.0 c.in_ok-marks.marks c.in_ok-counted.ensures
     (sym c.in_ok-in_stem.ensures ∙ c.field.ensures) c.field-name.ensures (sym s.1 ∙ c.field-2.ensures) (sym m.1 ∙ c.field-3.ensures)
-    (c.if-not-is_name.ensures.0 refl) s.0 read (not_true c.in_ok-marks.marks.declared c.if-not-marks.true)
+    (c.if-not-is_name.ensures.0 refl) s.0 read (not-true c.in_ok-marks.marks.declared c.if-not-marks.true)
 
 pub returns : goal.returns
 returns c =

@@ -1,5 +1,5 @@
 use Rattle.std.proofs.Common.{◌≡◌, ◌<◌, ◌≤◌, true, ◌⊎◌, List, length, refl, subst, inl, inr, ⊎_elim, arith, rules}
-use Rattle.std.proofs.lemmas.Bool.{not_true, not-false, both_ways}
+use Rattle.std.proofs.lemmas.Bool.{not-true, not-false, both_ways}
 use Rattle.document.specs.Faults.{line_fault_code}
 use Rattle.lasso.specs.DeclaredNames.{acts_of, props_of}
 use Rattle.document.specs.Texts.{pieces}
@@ -31,7 +31,7 @@ returns-then-not-seen c =
     let t = c.in_ok-seen.seen in
     let v = subst (λ (d : Declared). Surveyed (acts_of d) (props_of d) c.args.text.now t) c.declared-declared.ensures c.in_ok-seen.ensures in
     let why : t.ordered ≡ true → (t.stem ≡ t.steps) ⊎ (131072 < t.steps) = λ e.
-    ⊎_elim (λ x. absurd (both_ways t.ordered (not_true t.ordered x) e)) (⊎_elim (λ x. inl x.1) (λ x. inr x.2)) c.then-not-seen.either in
+    ⊎_elim (λ x. absurd (both_ways t.ordered (not-true t.ordered x) e)) (⊎_elim (λ x. inl x.1) (λ x. inr x.2)) c.then-not-seen.either in
     record {
       untouched = search rules;
       outcome = (scan_not (acts_of d) (props_of d) c.args.text.now (length c.args.steps.now) t v why, refl);
