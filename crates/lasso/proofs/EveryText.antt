@@ -4,7 +4,8 @@ use lib.Bits.{bit_or}
 use Rattle.std.specs.List.{AllByRecursion}
 use Rattle.std.proofs.ByRecursion.{All-get_or, All-from_get_or}
 use Rattle.std.proofs.lemmas.Bool.{cases_eq, cases_lt, cases_Bool, both_ways}
-use Rattle.program.specs.Names.{letter, naming, Named, Missing, Number}
+use Rattle.program.specs.Names.{letter, naming, Named}
+use Rattle.program.specs.Spellings.{Missing, NumberIn}
 use Rattle.document.specs.Texts.{pieces, fields}
 use Rattle.document.proofs.Pieces.{pieces_some}
 use Rattle.lasso.specs.LassoTexts.{decimal, joined}
@@ -54,7 +55,7 @@ name_or_none bs =
     (λ b. inr (λ h. omega (arith, h.short))) (cases_lt (length bs) 17))
     (λ a. inr (λ h. omega (arith, h.some))) (cases_lt 0 (length bs))
 
-number_or_none : (names : List (List ℕ)) (n : List ℕ) → ((i : ℕ) × Number names n i) ⊎ Missing names n
+number_or_none : (names : List (List ℕ)) (n : List ℕ) → ((i : ℕ) × NumberIn names n i) ⊎ Missing names n
 number_or_none [] n = inr (λ k h. absurd (omega arith))
 number_or_none (m ∷ ms) n =
     ⊎_elim (λ e. inl (0, (omega arith, e, λ k h. absurd (omega arith))))

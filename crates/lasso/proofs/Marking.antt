@@ -8,7 +8,8 @@ use Rattle.std.proofs.lemmas.List.{take-append-drop, take-take, length-take-le, 
 use Rattle.std.proofs.lemmas.Bool.{cases_lt, cases_eq, cases_order, cond-false, ne_eqb, eq-eqb, true≢false, false≢true}
 use Rattle.std.proofs.lemmas.Bool.Decides.{Decides-eqb, Decides-like, same_from_decides}
 use Rattle.program.specs.Masks.{Bit}
-use Rattle.program.specs.Names.{Named, Missing, Number}
+use Rattle.program.specs.Names.{Named}
+use Rattle.program.specs.Spellings.{Missing, NumberIn}
 use Rattle.program.proofs.Bits.{bit_of_or, bit_one, bit_past}
 use Rattle.document.specs.Texts.{pieces}
 use Rattle.document.proofs.Pieces.{Clear, piece_last, piece_next, pieces_some}
@@ -22,11 +23,11 @@ use Rattle.lasso.proofs.Splits.{together, together_is}
 use Rattle.lasso.proofs.Worded.{joined_pieces}
 
 -- a name has one number
-pub number_same : (names : List (List ℕ)) (n : List ℕ) (a b : ℕ) → Number names n a → Number names n b → a ≡ b
+pub number_same : (names : List (List ℕ)) (n : List ℕ) (a b : ℕ) → NumberIn names n a → NumberIn names n b → a ≡ b
 number_same names n a b x y =
     ⊎_elim (λ e. e) (⊎_elim (λ l. absurd (y.2 a l x.1)) (λ l. absurd (x.2 b l y.1))) (cases_order a b)
 
-pub number_not_missing : (names : List (List ℕ)) (n : List ℕ) (a : ℕ) → Number names n a → Missing names n → ⊥
+pub number_not_missing : (names : List (List ℕ)) (n : List ℕ) (a : ℕ) → NumberIn names n a → Missing names n → ⊥
 number_not_missing names n a x m = m a x.0 x.1
 
 pub bit_same : (m k i : ℕ) → Bit m i ↔ Bit k i → bit_of m i ≡ bit_of k i
@@ -79,8 +80,8 @@ mask_more props f p m h l s =
 pub record Taken (props ns : List (List ℕ)) (m : Marks) : Type 0 where
   pub named : AllByRecursion Named ns
   pub ordered : Ordered props ns
-  pub below : (i a : ℕ) → i < length ns → Number props (get_or ns i []) a → a < m.floor
-  pub top : (m.floor ≡ 0) ⊎ ((i : ℕ) × (a : ℕ) × (i < length ns) × Number props (get_or ns i []) a × (m.floor ≡ a + 1))
+  pub below : (i a : ℕ) → i < length ns → NumberIn props (get_or ns i []) a → a < m.floor
+  pub top : (m.floor ≡ 0) ⊎ ((i : ℕ) × (a : ℕ) × (i < length ns) × NumberIn props (get_or ns i []) a × (m.floor ≡ a + 1))
   pub high : m.floor ≤ length props
   pub small : m.mask < 2 ^ m.floor
   pub known : m.declared ≡ true → marked (take m.floor props) 0 m.mask ≡ ns
@@ -99,12 +100,12 @@ taken_none props = record {
 }
 
 ordered_push : (props ns : List (List ℕ)) (n : List ℕ) → Ordered props ns
-    → ((i a b : ℕ) → i < length ns → Number props (get_or ns i []) a → Number props n b → a < b) → Ordered props (ns ++ n ∷ [])
+    → ((i a b : ℕ) → i < length ns → NumberIn props (get_or ns i []) a → NumberIn props n b → a < b) → Ordered props (ns ++ n ∷ [])
 ordered_push props ns n old new i j a b h l x y =
     let long = length_push ns n in
-    let first : Number props (get_or ns i []) a = subst (λ (v : List ℕ). Number props v a) (get_or_append_left ns (n ∷ []) [] i (omega arith)) x in
-    ⊎_elim (λ e. new i a b (omega arith) first (subst (λ (v : List ℕ). Number props v b) (get_or_push ns n [] j (sym e)) y))
-    (λ e. old i j a b h (omega arith) first (subst (λ (v : List ℕ). Number props v b) (get_or_append_left ns (n ∷ []) [] j (omega arith)) y)) (cases_eq j (length ns))
+    let first : NumberIn props (get_or ns i []) a = subst (λ (v : List ℕ). NumberIn props v a) (get_or_append_left ns (n ∷ []) [] i (omega arith)) x in
+    ⊎_elim (λ e. new i a b (omega arith) first (subst (λ (v : List ℕ). NumberIn props v b) (get_or_push ns n [] j (sym e)) y))
+    (λ e. old i j a b h (omega arith) first (subst (λ (v : List ℕ). NumberIn props v b) (get_or_append_left ns (n ∷ []) [] j (omega arith)) y)) (cases_eq j (length ns))
 
 module _ (props ns : List (List ℕ)) (n : List ℕ) (m : Marks) (t : Taken props ns m) where
   stays : (P : List ℕ → Type 0) (i : ℕ) → i < length ns → P (get_or ns i []) → P (get_or (ns ++ n ∷ []) i [])
@@ -120,8 +121,8 @@ module _ (props ns : List (List ℕ)) (n : List ℕ) (m : Marks) (t : Taken prop
   taken_other h miss = record {
     named = All-append Named ns (n ∷ []) t.named (h, tt);
     ordered = ordered_push props ns n t.ordered (λ i a b l x y. absurd (number_not_missing props n b y miss));
-    below = λ i a l x. ⊎_elim (λ y. t.below i a y.0 y.1) (λ y. absurd (number_not_missing props n a y miss)) (back (λ v. Number props v a) i l x);
-    top = ⊎_elim inl (λ s. inr (s.0, s.1, omega (arith, s.2, length_push ns n), stays (λ v. Number props v s.1) s.0 s.2 s.3, s.4)) t.top;
+    below = λ i a l x. ⊎_elim (λ y. t.below i a y.0 y.1) (λ y. absurd (number_not_missing props n a y miss)) (back (λ v. NumberIn props v a) i l x);
+    top = ⊎_elim inl (λ s. inr (s.0, s.1, omega (arith, s.2, length_push ns n), stays (λ v. NumberIn props v s.1) s.0 s.2 s.3, s.4)) t.top;
     high = t.high;
     small = t.small;
     known = λ e. absurd (false≢true e);
@@ -129,13 +130,13 @@ module _ (props ns : List (List ℕ)) (n : List ℕ) (m : Marks) (t : Taken prop
   }
 
   -- one proposition more
-  taken_next : (p : ℕ) → Named n → Number props n p → m.floor ≤ p
+  taken_next : (p : ℕ) → Named n → NumberIn props n p → m.floor ≤ p
       → Taken props (ns ++ n ∷ []) (record { mask = bit_or m.mask (2 ^ p); declared = m.declared; floor = p + 1 })
   taken_next p h num l = record {
     named = All-append Named ns (n ∷ []) t.named (h, tt);
     ordered = ordered_push props ns n t.ordered (λ i a b k x y. let e = number_same props n b p y num in let f = t.below i a k x in omega arith);
-    below = λ i a k x. ⊎_elim (λ y. let f = t.below i a y.0 y.1 in omega arith) (λ y. let e = number_same props n a p y num in omega arith) (back (λ v. Number props v a) i k x);
-    top = inr (length ns, p, omega (arith, length_push ns n), subst (λ (v : List ℕ). Number props v p) (sym (get_or_push ns n [] (length ns) refl)) num, refl);
+    below = λ i a k x. ⊎_elim (λ y. let f = t.below i a y.0 y.1 in omega arith) (λ y. let e = number_same props n a p y num in omega arith) (back (λ v. NumberIn props v a) i k x);
+    top = inr (length ns, p, omega (arith, length_push ns n), subst (λ (v : List ℕ). NumberIn props v p) (sym (get_or_push ns n [] (length ns) refl)) num, refl);
     high = omega (arith, num.0);
     small = let s = pow_below m.floor (p + 1) (omega arith) in or_lt (p + 1) m.mask (2 ^ p) (omega (arith, t.small)) (pow_below p (p + 1) (omega arith));
     known = λ e. mask_more props m.floor p m.mask l num.0 t.small ∙ ap (λ (r : List (List ℕ)). r ++ get_or props p [] ∷ []) (t.known e) ∙ ap (λ (v : List ℕ). ns ++ v ∷ []) num.1;
@@ -155,8 +156,8 @@ module _ (props ns : List (List ℕ)) (n : List ℕ) (m : Marks) (t : Taken prop
       ⊎_elim (λ no. no (subst Named here (All-get_or Named (ns ++ n ∷ rest) (length ns) [] (omega arith) all)))
       (λ x. ⊎_elim (λ z. omega (arith, x.2))
       (λ s.
-      let first : Number props (get_or (ns ++ n ∷ rest) s.0 []) s.1 = subst (λ (v : List ℕ). Number props v s.1) (sym (get_or_append_left ns (n ∷ rest) [] s.0 s.2)) s.3 in
-      let second : Number props (get_or (ns ++ n ∷ rest) (length ns) []) x.0 = subst (λ (v : List ℕ). Number props v x.0) (sym here) x.1 in
+      let first : NumberIn props (get_or (ns ++ n ∷ rest) s.0 []) s.1 = subst (λ (v : List ℕ). NumberIn props v s.1) (sym (get_or_append_left ns (n ∷ rest) [] s.0 s.2)) s.3 in
+      let second : NumberIn props (get_or (ns ++ n ∷ rest) (length ns) []) x.0 = subst (λ (v : List ℕ). NumberIn props v x.0) (sym here) x.1 in
       omega (arith, x.2, s.4, ord s.0 (length ns) s.1 x.0 s.2 (omega arith) first second))
       t.top)
       r

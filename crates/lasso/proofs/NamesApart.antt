@@ -4,9 +4,12 @@ use Rattle.std.specs.List.{AllByRecursion}
 use Rattle.std.proofs.ByRecursion.{All-push}
 use Rattle.std.proofs.lemmas.List.{get_or_append_left, get_or_push, length_push}
 use Rattle.std.proofs.lemmas.Bool.{cases_lt}
-use Rattle.program.specs.Names.{Named, Missing}
-use Rattle.document.specs.Lines.{Declarations, Line, act_line, prop_line, goal_line, prog_line, true_form, prop_form, not_form, and_form, or_form, next_form, until_form, named_fields, NewName, Adds}
-use Rattle.document.specs.Outcomes.{taken, Comes, declares, aims, Loads, read}
+use Rattle.program.specs.Names.{Named}
+use Rattle.program.specs.Spellings.{Missing}
+use Rattle.document.specs.Lines.{Declarations, Line, act_line, prop_line, goal_line, prog_line, true_form, prop_form, not_form, and_form, or_form, next_form, until_form, named_fields}
+use Rattle.document.specs.Declaring.{NewName, Adds}
+use Rattle.document.specs.Outcomes.{taken}
+use Rattle.document.specs.Coming.{Comes, declares, aims, Loads, read}
 use Rattle.lasso.specs.LassoLines.{Apart}
 use Rattle.lasso.specs.ScanLaws.{LoadedApart}
 

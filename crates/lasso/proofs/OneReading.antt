@@ -5,7 +5,8 @@ use Rattle.std.proofs.lemmas.Nat.{pow_below, pow_pos, div-add-mod', mod_below}
 use Rattle.std.proofs.ByRecursion.{All-get_or}
 use Rattle.std.proofs.lemmas.Bool.{and_parts, ltb-true, leb-true, eqb-true, eq-eqb, ne_eqb, cases_lt, cases_eq, cases_order, cond-true, cond-false}
 use Rattle.program.specs.Masks.{Bit}
-use Rattle.program.specs.Names.{Named, Missing, Number}
+use Rattle.program.specs.Names.{Named}
+use Rattle.program.specs.Spellings.{Missing, NumberIn}
 use Rattle.program.proofs.Bits.{bit_past}
 use Rattle.lasso.specs.Lassos.{fits}
 use Rattle.lasso.specs.LassoTexts.{Words, words_of, marked}
@@ -98,7 +99,7 @@ module _ (names : List (List ℕ)) (a : Apart names) where
   pub place_same : (i j : ℕ) → i < length names → j < length names → get_or names i [] ≡ get_or names j [] → i ≡ j
   place_same i j h l e = ⊎_elim (λ x. x) (⊎_elim (λ x. absurd (a.apart i j x l e)) (λ x. absurd (a.apart j i x h (sym e)))) (cases_order i j)
 
-  number_at : (n : List ℕ) (k b : ℕ) → k < length names → n ≡ get_or names k [] → Number names n b → b ≡ k
+  number_at : (n : List ℕ) (k b : ℕ) → k < length names → n ≡ get_or names k [] → NumberIn names n b → b ≡ k
   number_at n k b h e x = place_same b k x.0 h (x.1 ∙ e)
 
   marked_ordered : (m : ℕ) → Ordered names (marked names 0 m)

@@ -3,7 +3,8 @@ use Rattle.std.proofs.Common.{◌≡◌, ℕ, ◌≤◌, Bool, true, false, List
 use native.Mathlib.Nat.{div-eq_of_lt}
 use Rattle.std.proofs.lemmas.Result.{err_from_is_err_and}
 use Rattle.std.proofs.lemmas.Bool.{and_from, lt-ltb, le-leb, eq-eqb}
-use Rattle.program.specs.Names.{Named, Missing, Number}
+use Rattle.program.specs.Names.{Named}
+use Rattle.program.specs.Spellings.{Missing, NumberIn}
 use Rattle.document.specs.Texts.{fields}
 use Rattle.lasso.specs.LassoTexts.{Words, worded, words_of, decimal, joined}
 use Rattle.lasso.specs.MarkFields.{MarksRead, NoMarks}
@@ -66,7 +67,7 @@ module _ (acts props : List (List ℕ)) (line : List ℕ) where
     pub fault_unknown_mark : m.declared ≡ false → Faulty acts props line 4
     fault_unknown_mark e = naming (record { in_stem = kind; action = action; state = n; marks = names }) is_shaped is_worded (inr (read.unknown e))
 
-    pub line_reads : (a : ℕ) → Number acts action a → m.declared ≡ true
+    pub line_reads : (a : ℕ) → NumberIn acts action a → m.declared ≡ true
         → Reads acts props line (record { step = record { state = n; action = a; marks = m.mask }; in_stem = kind })
     line_reads a num e =
         let k = read.known e in

@@ -1,7 +1,8 @@
 -- The lines of a lasso's text: what each of them spells, and which is refused first.
 use Rattle.std.specs.Prelude.{◌≡◌, ℕ, suc, ◌<◌, ◌≤◌, true, ◌⊎◌, List, [], ◌∷◌, length, ◌≢◌, slice_index_or}
 use Rattle.std.specs.List.{AllByRecursion}
-use Rattle.program.specs.Names.{Named, Missing, Number}
+use Rattle.program.specs.Names.{Named}
+use Rattle.program.specs.Spellings.{Missing, NumberIn}
 use Rattle.lasso.specs.Lassos.{fits}
 use Rattle.lasso.specs.LassoTexts.{Words, worded, words_of}
 use Rattle.lasso.specs.declared.scan.StepLine.{StepLine}
@@ -13,7 +14,7 @@ pub record Apart (names : List (List ℕ)) : Type 0 where
 
 -- the declared propositions among the names stand in their order, none of them twice
 abbrev pub Ordered : List (List ℕ) → List (List ℕ) → Type 0
-Ordered props names = (i j a b : ℕ) → i < j → j < length names → Number props (slice_index_or names i []) a → Number props (slice_index_or names j []) b → a < b
+Ordered props names = (i j a b : ℕ) → i < j → j < length names → NumberIn props (slice_index_or names i []) a → NumberIn props (slice_index_or names j []) b → a < b
 
 -- words that make a step line, with declared names or others
 pub record Shaped (props : List (List ℕ)) (w : Words) : Type 0 where

@@ -1,7 +1,8 @@
 -- The marks of a line, read name by name.
 use Rattle.std.specs.Prelude.{◌≡◌, ℕ, ◌+◌, ◌^◌, ◌<◌, ◌≤◌, true, false, ◌⊎◌, List, [], length, ◌≢◌, bit_or, slice_index_or}
 use Rattle.std.specs.List.{AllByRecursion}
-use Rattle.program.specs.Names.{Named, Missing, Number}
+use Rattle.program.specs.Names.{Named}
+use Rattle.program.specs.Spellings.{Missing, NumberIn}
 use Rattle.lasso.specs.LassoTexts.{marked, joined}
 use Rattle.lasso.specs.LassoLines.{Ordered}
 use Rattle.lasso.specs.declared.scan.Marks.{Marks}
@@ -11,11 +12,11 @@ abbrev pub AddsMark : List (List ℕ) → List ℕ → Marks → Marks → Type 
 AddsMark props name old new =
     Named name
     × ((Missing props name × (new ≡ record { mask = old.mask; declared = false; floor = old.floor }))
-    ⊎ ((p : ℕ) × Number props name p × (old.floor ≤ p) × (new ≡ record { mask = bit_or old.mask (2 ^ p); declared = old.declared; floor = p + 1 })))
+    ⊎ ((p : ℕ) × NumberIn props name p × (old.floor ≤ p) × (new ≡ record { mask = bit_or old.mask (2 ^ p); declared = old.declared; floor = p + 1 })))
 
 -- a name that is malformed, or a proposition that does not come after those before
 abbrev pub RefusesMark : List (List ℕ) → List ℕ → Marks → Type 0
-RefusesMark props name old = (Named name → ⊥) ⊎ ((p : ℕ) × Number props name p × (p < old.floor))
+RefusesMark props name old = (Named name → ⊥) ⊎ ((p : ℕ) × NumberIn props name p × (p < old.floor))
 
 -- these names in this order: declared, and then the mask stands for them, or not all declared
 pub record MarksRead (props names : List (List ℕ)) (m : Marks) : Type 0 where

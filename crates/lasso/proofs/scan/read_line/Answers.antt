@@ -1,6 +1,6 @@
 use Rattle.std.proofs.Common.{◌≡◌, ℕ, List, sym, refl, ◌∙◌, subst}
 use Rattle.std.proofs.lemmas.Bool.{false≢true, not-true, not-false}
-use Rattle.program.specs.Names.{Missing, Number}
+use Rattle.program.specs.Spellings.{Missing, NumberIn}
 use Rattle.document.specs.Faults.{line_fault_code}
 use Rattle.document.specs.Kept.{names_of}
 use Rattle.lasso.specs.DeclaredNames.{acts_of, props_of}
@@ -68,7 +68,7 @@ returns c =
     let s = c.in-Some.ensures in
     let m = c.in_ok-marks.ensures in
     let read = subst (λ (n : Names). MarksRead (names_of n) m.0 c.in_ok-marks.marks) c.props.ensures.is m.2 in
-    let num = subst (λ (n : Names). Number (names_of n) c.field-name.result.now c.in-Some-find.action) c.acts.ensures.is c.in-Some-find.ensures.is in
+    let num = subst (λ (n : Names). NumberIn (names_of n) c.field-name.result.now c.in-Some-find.action) c.acts.ensures.is c.in-Some-find.ensures.is in
     line_reads (acts_of c.args.declared.now) (props_of c.args.declared.now) c.args.line.now c.in_ok-in_stem.in_stem
     c.field-name.result.now c.field-2.result.now c.field-3.result.now c.in-Some.state m.0 c.in_ok-marks.marks c.in_ok-counted.ensures
     (sym c.in_ok-in_stem.ensures ∙ c.field.ensures) c.field-name.ensures (sym s.1 ∙ c.field-2.ensures) (sym m.1 ∙ c.field-3.ensures)
