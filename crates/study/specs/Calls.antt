@@ -1,12 +1,12 @@
 -- What each call does, as a relation of what was handed over, the study before and after, and the answer.
-use Rattle.std.specs.Prelude.{◌≡◌, ℕ, zero, suc, ◌+◌, ◌-◌, ◌*◌, ◌<◌, ◌≤◌, Bool, true, false, cond, ◌⊎◌, List, [], ◌∷◌, ◌++◌, length, get_or}
+use Rattle.std.specs.Prelude.{◌≡◌, ℕ, zero, suc, ◌+◌, ◌*◌, ◌<◌, ◌≤◌, Bool, true, false, ◌⊎◌, List, [], ◌∷◌, length}
 use Rattle.document.specs.Documents.{Document}
 use Rattle.document.specs.Lines.{Declarations, document_of}
 use Rattle.document.specs.Outcomes as outcomes
 use Rattle.document.specs.Outcomes.{Loads}
 use Rattle.lasso.specs.Readings.{Moment, Lasso, LassoOf, Meets}
 use Rattle.system.specs.TransitionGraph.{TransitionGraph, Lawful}
-use Rattle.tableau.specs.Graphs.{Node, FirstNode, Lists, Tables, Opens}
+use Rattle.tableau.specs.Graphs.{FirstNode, Lists, Tables, Opens}
 use Rattle.study.specs.Sessions.{Session}
 
 -- the places of the two tables, counted up to their limits

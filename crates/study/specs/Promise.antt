@@ -1,12 +1,11 @@
 -- The promise over every list of calls on an unused study.
-use Rattle.std.specs.Prelude.{◌≡◌, ℕ, zero, suc, ◌+◌, ◌-◌, ◌*◌, ◌<◌, ◌≤◌, min, Bool, true, false, cond, ◌⊎◌, List, [], ◌∷◌, ◌++◌, length, Some, None, Option, slice_index_or}
-use Rattle.std.specs.List.{ContainsAt as Has}
+use Rattle.std.specs.Prelude.{◌≡◌, ℕ, suc, ◌+◌, ◌*◌, ◌<◌, ◌≤◌, min, Bool, true, false, ◌⊎◌, List, [], ◌∷◌, length, Some, None, Option, slice_index_or}
 use Rattle.document.specs.Documents.{Document}
 use Rattle.lasso.specs.Readings.{Lasso, LassoOf, Meets}
-use Rattle.system.specs.TransitionGraph.{TransitionGraph, Lawful}
+use Rattle.system.specs.TransitionGraph.{TransitionGraph}
 use Rattle.tableau.specs.Graphs.{Node, Tables, Lists, InGraph, Successor}
 use Rattle.study.specs.Sessions.{Session}
-use Rattle.study.specs.Calls.{Places, Study, Study.blank, Study.loaded, Event, Event.load, Event.grow, Event.decide, Event.examine, Event.judge, Event.audit, Event.wipe, Answer, Answer.refused, Answer.gave, Verdict, Verdict.found, Verdict.none, Growth, Report, Report.complete, Handed, Units, empty, History, Does}
+use Rattle.study.specs.Calls.{Places, Study, Study.loaded, Event, Event.load, Event.grow, Event.decide, Event.examine, Event.judge, Event.audit, Event.wipe, Answer, Answer.refused, Answer.gave, Verdict, Verdict.found, Verdict.none, Growth, Report.complete, Handed, Units, empty, History, Does}
 
 -- the goal that a list of calls, newest first, leaves loaded
 abbrev pub goal_after : List Event → Option Document

@@ -8,7 +8,7 @@ use system::system::System;
 
 // Whether the system has the move.
 fn has_move<S: System>(system: S, state: usize, action: u8, target: usize) -> bool
-    ensures { Decides result (Goes ((meaning system).moves state) action target) }
+    ensures { Decides result (Goes ((S.meaning system).moves state) action target) }
 {
     for k in 0..system.moves(state) {
         if let Some(m) = system.move_at(state, k) {
@@ -22,7 +22,7 @@ fn has_move<S: System>(system: S, state: usize, action: u8, target: usize) -> bo
 
 // Whether a step shows its state's marks among the declared ones, and goes along a move to the next state.
 fn step_goes<S: System>(system: S, declared: u16, step: Step, next: u16) -> bool
-    ensures { Decides result (StepGoes (meaning system) declared step next) }
+    ensures { Decides result (StepGoes (S.meaning system) declared step next) }
 {
     let state = step.state as usize;
     step.marks == system.marks(state) & declared
@@ -32,7 +32,7 @@ fn step_goes<S: System>(system: S, declared: u16, step: Step, next: u16) -> bool
 // Whether the lasso is a session of the system.
 pub fn is_session<S: System>(system: S, declared: u16, steps: &[Step], stem: usize) -> bool
     requires { stem < length steps.now }
-    ensures { Decides result (SessionSteps (meaning system) declared steps.now stem) }
+    ensures { Decides result (SessionSteps (S.meaning system) declared steps.now stem) }
 {
     if !system.starts(steps[0].state as usize) {
         return false;

@@ -1,4 +1,4 @@
-use Rattle.std.proofs.Common.{◌≡◌, length, sym, refl, subst, arith, below_more}
+use Rattle.std.proofs.Common.{length, sym, refl, subst, arith, below_more}
 use Rattle.lasso.specs.Lassos.{step_in}
 use Rattle.lasso.specs.Rounds.{next_place}
 use Rattle.study.specs.Sessions.{StepGoes}
