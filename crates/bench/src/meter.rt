@@ -16,7 +16,7 @@ pub struct Meter<'a> {
 fn show_time(rt: &HostRuntime, micros: u64) -> io::Result<()> {
     let whole = micros / 1000;
     let rest = micros % 1000;
-    print!(rt, "{whole}.{rest:03} ms")
+    print!(rt; "{whole}.{rest:03} ms")
 }
 
 // How many times the work before it took.
@@ -27,7 +27,7 @@ fn show_ratio(rt: &HostRuntime, micros: u64, before: u64) -> io::Result<()> {
     let hundredths = micros.saturating_mul(100) / before;
     let whole = hundredths / 100;
     let rest = hundredths % 100;
-    print!(rt, "\t{whole}.{rest:02} times")
+    print!(rt; "\t{whole}.{rest:02} times")
 }
 
 impl<'a> Meter<'a> {
@@ -73,14 +73,14 @@ impl<'a> Meter<'a> {
 
     // Ends a piece of work of a size.
     pub fn line(&mut self, size: usize, answer: &str) -> io::Result<()> {
-        print!(self.rt, "\t{size}\t")?;
+        print!(self.rt; "\t{size}\t")?;
         if self.timed {
             show_time(self.rt, self.best)?;
             show_ratio(self.rt, self.best, self.before)?;
             self.before = self.best;
             self.best = u64::MAX;
         } else {
-            print!(self.rt, "{answer}")?;
+            print!(self.rt; "{answer}")?;
         }
         println!(self.rt; "")
     }
