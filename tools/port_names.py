@@ -120,6 +120,15 @@ def main():
         if new != text:
             changed += 1
             open(path, "w", encoding="utf-8").write(new)
+    # a name of the library's does not stand under another of its words
+    for path in ANTT + RT:
+        text = open(path, encoding="utf-8").read()
+        if "AllByRecursion as All" not in text:
+            continue
+        lines = text.replace("AllByRecursion as All", "AllByRecursion").split("\n")
+        lines = [line if re.match(r"\s*(--|//)", line) else re.sub(r"(?<![\w.'-])All(?![\w'-])", "AllByRecursion", line) for line in lines]
+        changed += 1
+        open(path, "w", encoding="utf-8").write("\n".join(lines))
     print(f"{len(turn)} names, {changed} files")
 
 

@@ -1,10 +1,11 @@
 // Numbers up to 4,095 in decimal, without leading zeros.
-ghost use Rattle.std.specs.Prelude.{◌≡◌, ℕ, ◌+◌, ◌*◌, ◌<◌, ◌≤◌, MatchOption, ◌≢◌};
+ghost use Rattle.std.specs.Prelude.{◌≡◌, ℕ, ◌+◌, ◌*◌, ◌<◌, ◌≤◌, MatchOption, ◌≢◌, IfSome};
 ghost use Rattle.lasso.specs.LassoTexts.{decimal};
 
 // The number that the field spells.
 pub fn read_state(field: &[u8]) -> Option<u16>
-    ensures { MatchOption result ((n : ℕ) → n ≤ 4095 → field.now ≢ decimal n) (λ n. (n ≤ 4095) × (field.now ≡ decimal n)) }
+    ensures within { IfSome result (λ n. n ≤ 4095) }
+    ensures spells { MatchOption result ((n : ℕ) → n ≤ 4095 → field.now ≢ decimal n) (λ n. (n ≤ 4095) × (field.now ≡ decimal n)) }
 {
     if field.len() == 0 || field.len() > 4 {
         return None;

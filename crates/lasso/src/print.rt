@@ -1,5 +1,5 @@
 // Writing a lasso's text: a line for each step.
-ghost use Rattle.std.specs.Prelude.{◌≡◌, ◌+◌, ◌^◌, ◌<◌, ◌≤◌, cond, [], ◌∷◌, length, if◌then◌else◌, codes, MatchOption, slice_set};
+ghost use Rattle.std.specs.Prelude.{◌≡◌, ◌+◌, ◌^◌, ◌<◌, ◌≤◌, cond, [], ◌∷◌, length, if◌then◌else◌, codes, MatchOption, slice_set, IfNone};
 ghost use Rattle.std.specs.List.{AllByRecursion};
 ghost use Rattle.program.specs.Names.{Named, spelled};
 ghost use Rattle.document.specs.Kept.{names_of};
@@ -55,7 +55,7 @@ fn put_kind(text: &mut [u8], at: usize, in_stem: bool) -> usize
 fn put_name(text: &mut [u8], at: usize, name: Name) -> usize
     requires { at < 2 ^ 39 }
     ensures next { result ≡ at + length (spelled name) }
-    ensures few { result ≤ at + 16 }
+    ensures few { (at ≤ result) × (result ≤ at + 16) }
     ensures text { text.new ≡ written text.old at (spelled name) }
 {
     let mut next = at;
@@ -68,6 +68,7 @@ fn put_name(text: &mut [u8], at: usize, name: Name) -> usize
 // A digit, left out where it is 0 and no other stands before it.
 fn put_digit(text: &mut [u8], at: usize, digit: u16, shown: bool) -> usize
     requires { (at < 2 ^ 39) × (digit < 10) }
+    ensures few { (at ≤ result) × (result ≤ at + 1) }
     ensures next { result ≡ at + length (if shown then (48 + digit) ∷ [] else []) }
     ensures text { text.new ≡ written text.old at (if shown then (48 + digit) ∷ [] else []) }
 {
@@ -110,7 +111,7 @@ fn put_mark(text: &mut [u8], at: usize, name: Name, first: bool) -> usize
 fn put_marks(text: &mut [u8], at: usize, props: &Names, marks: u16) -> usize
     requires { (at < 2 ^ 38) × (props.now.count ≤ 16) }
     ensures next { result ≡ at + length (joined (marked (names_of props.now) 0 marks)) }
-    ensures few { result ≤ at + 273 }
+    ensures few { (at ≤ result) × (result ≤ at + 273) }
     ensures text { text.new ≡ written text.old at (joined (marked (names_of props.now) 0 marks)) }
 {
     let mut next = at;
@@ -158,7 +159,7 @@ fn write(document: &Document, steps: &[Step], stem: usize, text: &mut [u8]) -> u
 // Writes the lasso's text into the first bytes, and answers its length; where it does not fit, nothing is written.
 pub fn print(document: &Document, steps: &[Step], stem: usize, text: &mut [u8]) -> Option<usize>
     requires { length steps.now ≤ 131072 }
-    ensures untouched { MatchOption result (text.new ≡ text.old) (λ _. Unit {0}) }
+    ensures untouched { IfNone result (text.new ≡ text.old) }
     ensures words { IsLasso document.now.declared.acts.count document.now.declared.props.count steps.now stem → Printed (worded_lasso (acts_of document.now.declared) (props_of document.now.declared) steps.now stem) text.old text.new result }
     ensures text { IsLasso document.now.declared.acts.count document.now.declared.props.count steps.now stem → AllByRecursion Named (props_of document.now.declared) → Printed (lasso_text (acts_of document.now.declared) (props_of document.now.declared) steps.now stem) text.old text.new result }
 {

@@ -163,7 +163,9 @@ struct Tally {
 impl Tally {
     fn with(self, in_stem: bool) -> Tally
         requires { (self.steps < 2 ^ 63) × (self.stem ≤ self.steps) }
-        ensures { result ≡ record { steps = self.steps + 1; stem = cond in_stem (self.stem + 1) self.stem; ordered = cond in_stem (self.ordered && self.stem == self.steps) self.ordered } }
+        ensures steps { result.steps ≡ self.steps + 1 }
+        ensures stem { result.stem ≤ result.steps }
+        ensures is { result ≡ record { steps = self.steps + 1; stem = cond in_stem (self.stem + 1) self.stem; ordered = cond in_stem (self.ordered && self.stem == self.steps) self.ordered } }
     {
         if in_stem {
             Tally {
@@ -207,7 +209,8 @@ fn numbered(
 
 // Checks every line.
 fn survey(declared: &Declared, text: &[u8]) -> Result<Tally, LineAt>
-    ensures { MatchResult result (λ t. Surveyed (acts_of declared.now) (props_of declared.now) text.now t) (λ f. FirstFault (acts_of declared.now) (props_of declared.now) 1 (pieces 10 text.now) (line_fault_code f.fault) f.line) }
+    ensures stem { IfOk result (λ s. s.stem ≤ s.steps) }
+    ensures told { MatchResult result (λ t. Surveyed (acts_of declared.now) (props_of declared.now) text.now t) (λ f. FirstFault (acts_of declared.now) (props_of declared.now) 1 (pieces 10 text.now) (line_fault_code f.fault) f.line) }
 {
     let mut seen = Tally {
         steps: 0,

@@ -23,8 +23,8 @@ loop-k-preserved c =
     let more = number_more field c.loop-k.k (omega arith) in
     (omega arith, All-more Digit field c.loop-k.k 0 (omega arith) c.loop-k.invariant.1 (omega arith, omega arith))
 
-pub returns-else-value-gt4095 : goal.returns-else-value-gt4095
-returns-else-value-gt4095 c =
+pub returns-else-value-gt4095-clause-spells : goal.returns-else-value-gt4095-clause-spells
+returns-else-value-gt4095-clause-spells c =
     let field = c.args.field.now in
     let all = take_all c.loop-k.k field (omega arith) in
     let digits = subst (AllByRecursion Digit) all c.loop-k.invariant.1 in

@@ -33,7 +33,7 @@ returns-then-not-is_name c =
 
 pub returns-in_default : goal.returns-in_default
 returns-in_default c =
-    fault_state (acts_of c.args.declared.now) (props_of c.args.declared.now) c.args.line.now _ c.field-2.ensures c.in_default.ensures
+    fault_state (acts_of c.args.declared.now) (props_of c.args.declared.now) c.args.line.now _ c.field-2.ensures c.in_default.ensures.spells
 
 pub returns-in_err-marks : goal.returns-in_err-marks
 returns-in_err-marks c =
@@ -44,7 +44,7 @@ returns-in_err-marks c =
 
 pub returns-in_default-find : goal.returns-in_default-find
 returns-in_default-find c =
-    let s = c.in-Some.ensures in
+    let s = c.in-Some.ensures.spells in
     let m = c.in_ok-marks.ensures in
     let read = subst (λ (n : Names). MarksRead (names_of n) m.0 c.in_ok-marks.marks) c.props.ensures.is m.2 in
     let miss = subst (λ (n : Names). Missing (names_of n) c.field-name.result.now) c.acts.ensures.is c.in_default-find.ensures.is in
@@ -55,7 +55,7 @@ returns-in_default-find c =
 
 pub returns-then-not-marks : goal.returns-then-not-marks
 returns-then-not-marks c =
-    let s = c.in-Some.ensures in
+    let s = c.in-Some.ensures.spells in
     let m = c.in_ok-marks.ensures in
     let read = subst (λ (n : Names). MarksRead (names_of n) m.0 c.in_ok-marks.marks) c.props.ensures.is m.2 in
     fault_unknown_mark (acts_of c.args.declared.now) (props_of c.args.declared.now) c.args.line.now c.in_ok-in_stem.in_stem
@@ -65,7 +65,7 @@ returns-then-not-marks c =
 
 pub returns : goal.returns
 returns c =
-    let s = c.in-Some.ensures in
+    let s = c.in-Some.ensures.spells in
     let m = c.in_ok-marks.ensures in
     let read = subst (λ (n : Names). MarksRead (names_of n) m.0 c.in_ok-marks.marks) c.props.ensures.is m.2 in
     let num = subst (λ (n : Names). NumberIn (names_of n) c.field-name.result.now c.in-Some-find.action) c.acts.ensures.is c.in-Some-find.ensures.is in

@@ -4,8 +4,8 @@ use Rattle.lasso.proofs.StepLines.{exit_at}
 use Rattle.lasso.proofs.Surveys.{passed_refused, passed_more, passed_all}
 use Rattle.lasso.proofs.scan.survey.Goals as goal
 
-pub returns-in_err-read : goal.returns-in_err-read
-returns-in_err-read c =
+pub returns-in_err-read-clause-told : goal.returns-in_err-read-clause-told
+returns-in_err-read-clause-told c =
     let p = c.next_place-end.ensures in
     let e = c.in_err-read.ensures in
     exit_at c.from_residual.result c.in_err-read.field-0.0 _ _ c.from_residual.ensures.1
@@ -18,7 +18,7 @@ loop-at-preserved c =
     let e = c.in_ok-read.ensures in
     let l = ltb-true _ _ e.0 in
     passed_more (acts_of c.args.declared.now) (props_of c.args.declared.now) c.args.text.now c.loop-at.at c.next_place-end.result p.within.0 c.loop-at.seen c.loop-at.invariant
-    l p.before (p.here l) c.in_ok-read.read e.1 c.with-seen.result c.with-seen.ensures
+    l p.before (p.here l) c.in_ok-read.read e.1 c.with-seen.result c.with-seen.ensures.is
 
-pub returns : goal.returns
-returns c = passed_all (acts_of c.args.declared.now) (props_of c.args.declared.now) c.args.text.now c.loop-at.at c.loop-at.seen c.loop-at-test.false c.loop-at.invariant
+pub returns-clause-told : goal.returns-clause-told
+returns-clause-told c = passed_all (acts_of c.args.declared.now) (props_of c.args.declared.now) c.args.text.now c.loop-at.at c.loop-at.seen c.loop-at-test.false c.loop-at.invariant
