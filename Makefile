@@ -6,7 +6,7 @@
 
 SEED ?= 1
 PYTHON ?= python3
-COMPARE ?= $(CURDIR)/target/bin/compare
+COMPARE ?= $(CURDIR)/crates/compare/out/compare
 STORE ?= crates/compare
 
 .PHONY: oracle compare cases
