@@ -54,7 +54,7 @@ same_bytes : (xs ys : List ℕ) → Decided (xs ≡ ys)
 same_bytes = same_list cases_eq
 
 -- a name is known or missing
-first_below : (ns : List (List ℕ)) (n : List ℕ) (k : ℕ) → ((i : ℕ) × (i < k) × (get_or ns i [] ≡ n) × AbsentIn ns i n) ⊎ AbsentIn ns k n
+pub first_below : (ns : List (List ℕ)) (n : List ℕ) (k : ℕ) → ((i : ℕ) × (i < k) × (get_or ns i [] ≡ n) × AbsentIn ns i n) ⊎ AbsentIn ns k n
 first_below ns n zero = inr (λ k h e. omega arith)
 first_below ns n (suc k) =
     ⊎_elim

@@ -7,6 +7,8 @@ pub mod Formulas
 pub mod Growing
 pub mod Held
 pub mod Lined
+pub mod LinesAlike
+pub mod LoadsAlike
 pub mod OneOutcome
 pub mod Operands
 pub mod Pieces

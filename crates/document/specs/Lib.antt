@@ -9,6 +9,7 @@ pub mod Kept
 pub mod Kinds
 pub mod Lines
 pub mod Loading
+pub mod LoadsAlike
 pub mod NameLists
 pub mod Outcomes
 pub mod Represents

@@ -13,6 +13,7 @@ use Rattle.document.specs.Texts.{pieces}
 use Rattle.document.specs.declared.fault.LoadFault.TheVariants.{TooLong, Line}
 use Rattle.document.proofs.Deciding.{one_outcome}
 use Rattle.document.proofs.Documented.{represents, well_formed}
+use Rattle.document.proofs.LoadsAlike.{loads_alike, one_outcome_by_place}
 use Rattle.document.proofs.Reached.{Read, Unread, reached_start, reached_more, reached_fault, reached_end}
 use Rattle.document.proofs.Spelling.{accepted_exactly, one_document}
 use Rattle.document.proofs.load.load.Goals as goal
@@ -36,7 +37,7 @@ loop-at-preserved c =
     )
 
 pub returns-then-text-gt16384 : goal.returns-then-text-gt16384
-returns-then-text-gt16384 c = record { long = λ _. refl; short = λ h e. omega arith; one = one_outcome; exactly = accepted_exactly; single = one_document; loaded = too_long c.if-text-gt16384.true; line = omega arith }
+returns-then-text-gt16384 c = record { long = λ _. refl; short = λ h e. omega arith; one = one_outcome; alike = loads_alike; one_by_place = one_outcome_by_place; exactly = accepted_exactly; single = one_document; loaded = too_long c.if-text-gt16384.true; line = omega arith }
 
 pub returns-in_err-progress : goal.returns-in_err-progress
 returns-in_err-progress c =
@@ -54,6 +55,8 @@ returns-in_err-progress c =
       long = λ h. absurd (omega arith);
       short = λ h e. let same : Err (Line f) ≡ Err TooLong = sym is ∙ e in let z : ◌≡◌ {A = ℕ} 0 1 = cc same in omega arith;
       one = one_outcome;
+      alike = loads_alike;
+      one_by_place = one_outcome_by_place;
       exactly = accepted_exactly;
       single = one_document;
       loaded = subst (Loaded text) (sym is) (read c.if-text-gt16384.false (subst (λ n. outcome.Comes nothing 1 (pieces 10 text) (failed.refused (line_fault_code f.fault) n (line_fault_column f.fault))) (sym number) comes));
@@ -71,6 +74,8 @@ returns-in-Some c =
       long = λ h. absurd (omega arith);
       short = search rules;
       one = one_outcome;
+      alike = loads_alike;
+      one_by_place = one_outcome_by_place;
       exactly = accepted_exactly;
       single = one_document;
       loaded = record {
@@ -93,6 +98,8 @@ returns-in-None c =
       long = λ h. absurd (omega arith);
       short = search rules;
       one = one_outcome;
+      alike = loads_alike;
+      one_by_place = one_outcome_by_place;
       exactly = accepted_exactly;
       single = one_document;
       loaded = read c.if-text-gt16384.false (reached_end text c.loop-at.at number c.loop-at.progress.declared c.loop-at-test.false u);
