@@ -16,9 +16,9 @@ use Rattle.program.proofs.Unique.{one_tree}
 use Rattle.program.proofs.Spellings.{one_program_in}
 use Rattle.document.specs.Documents.{weight}
 use Rattle.document.specs.Lines.{Declarations, nothing, Line, act_line, prop_line, goal_line, prog_line, true_form, prop_form, not_form, and_form, or_form, next_form, until_form, shown, named_fields, InPlace, MalformedAt, ReadsAs}
-use Rattle.document.specs.Declaring.{KnownName, NewName, NamesKnown, FormOf, FormFits, Within, Fine, Faulty, shape, program, naming, limit, order, Adds}
+use Rattle.document.specs.Declaring.{KnownName, NewName, NamesKnown, FormOfByFirst, FormFitsByFirst, WithinByFirst, FineByFirst, FaultyByFirst, shape, program, naming, limit, order, AddsByFirst}
 use Rattle.document.specs.Outcomes.{Outcome, taken, refused}
-use Rattle.document.specs.Coming.{Comes, no_goal, unended, faulty, declares, aims, line_after, Loads, too_long, read, HasOneOutcome}
+use Rattle.document.specs.Coming.{ComesByFirst, no_goal, unended, faulty, declares, aims, line_after, LoadsByFirst, too_long, read, HasOneOutcomeByFirst}
 use Rattle.document.specs.Texts.{fields, pieces}
 use Rattle.document.specs.declared.form.Form.{Form}
 use Rattle.document.specs.declared.form.Form.TheVariants.{True, Prop, Not, And, Or, Next, Until}
@@ -199,7 +199,7 @@ below : (m n : ℕ) → Decided (m < n)
 below m n = ⊎_elim (λ l. inl l) (λ g. inr (λ l. omega arith)) (cases_lt m n)
 
 -- a form is within the limits or not
-fits : (d : Declarations) (x : Line) (f : Form) → FormOf d x f → Decided (FormFits d x)
+fits : (d : Declarations) (x : Line) (f : Form) → FormOfByFirst d x f → Decided (FormFitsByFirst d x)
 fits d x f is =
     ⊎_elim
     (λ few. ⊎_elim
@@ -211,8 +211,8 @@ fits d x f is =
 
 -- the sort of a line: it is the goal's, or it declares something, which is within the limits or not
 record Sorted (d : Declarations) (x : Line) : Type 0 where
-  pub within : Decided (Within d x)
-  pub does : ((f : List ℕ) × (x ≡ goal_line f)) ⊎ ((e : Declarations) × Adds d x e)
+  pub within : Decided (WithinByFirst d x)
+  pub does : ((f : List ℕ) × (x ≡ goal_line f)) ⊎ ((e : Declarations) × AddsByFirst d x e)
 
 sorted : (d : Declarations) (x : Line) → NamesKnown d x → Sorted d x
 sorted d (act_line n) k = record { within = below (length d.acts) 16; does = inr (_, refl) }
@@ -248,7 +248,7 @@ in_place d (next_form n u q) = inl tt
 in_place d (until_form n p r q) = inl tt
 
 -- a line is fine or has its fault
-line : (d : Declarations) (bytes : List ℕ) → ((x : Line) × ReadsAs bytes x × Fine d x) ⊎ ((c : ℕ) × (k : ℕ) × Faulty d bytes c k)
+line : (d : Declarations) (bytes : List ℕ) → ((x : Line) × ReadsAs bytes x × FineByFirst d x) ⊎ ((c : ℕ) × (k : ℕ) × FaultyByFirst d bytes c k)
 line d bytes =
     ⊎_elim
     (λ t. let x = t.0 in let r = t.1 in
@@ -271,7 +271,7 @@ line d bytes =
     (λ un. inr (2, 0, shape un))
     (reads bytes)
 
-comes : (ps : List (List ℕ)) (d : Declarations) (n : ℕ) → 0 < length ps → (o : Outcome) × Comes d n ps o
+comes : (ps : List (List ℕ)) (d : Declarations) (n : ℕ) → 0 < length ps → (o : Outcome) × ComesByFirst d n ps o
 comes [] d n h = absurd (omega arith)
 comes ([] ∷ []) d n h = (refused 6 n 0, no_goal)
 comes ((x ∷ xs) ∷ []) d n h = (refused 2 n 0, unended)
@@ -279,27 +279,27 @@ comes (l ∷ m ∷ ms) d n h =
     ⊎_elim
     (λ t. let x = t.0 in let r = t.1 in let fine = t.2 in
     ⊎_elim
-    (λ g. aimed g.0 (subst (ReadsAs l) g.1 r) (subst (Fine d) g.1 fine))
+    (λ g. aimed g.0 (subst (ReadsAs l) g.1 r) (subst (FineByFirst d) g.1 fine))
     (λ a. let c = comes (m ∷ ms) a.0 (suc n) (omega arith) in (c.0, declares x r fine a.1 c.1))
     (sorted d x fine.well_named.1).does)
     (λ f. (refused f.0 n f.1, faulty f.2))
     (line d l)
   where
-    aimed : (f : List ℕ) → ReadsAs l (goal_line f) → Fine d (goal_line f) → (o : Outcome) × Comes d n (l ∷ m ∷ ms) o
+    aimed : (f : List ℕ) → ReadsAs l (goal_line f) → FineByFirst d (goal_line f) → (o : Outcome) × ComesByFirst d n (l ∷ m ∷ ms) o
     aimed f r fine =
         ⊎_elim
         (λ (e : m ∷ ms ≡ [] ∷ []).
         let i = fine.well_named.1 in
-        (taken d i.0, subst (λ v. Comes d n (l ∷ v) (taken d i.0)) (sym e) (aims f r fine i.1)))
+        (taken d i.0, subst (λ v. ComesByFirst d n (l ∷ v) (taken d i.0)) (sym e) (aims f r fine i.1)))
         (λ ne. (refused 6 (suc n) 0, line_after f r fine ne))
         (same_list same_bytes (m ∷ ms) ([] ∷ []))
 
-some_outcome : (text : List ℕ) → (o : Outcome) × Loads text o
+some_outcome : (text : List ℕ) → (o : Outcome) × LoadsByFirst text o
 some_outcome text =
     ⊎_elim
     (λ long. (refused 1 0 0, too_long long))
     (λ short. let c = comes (pieces 10 text) nothing 1 (pieces_some 10 text) in (c.0, read short c.1))
     (cases_lt 16384 (length text))
 
-pub one_outcome : HasOneOutcome
+pub one_outcome : HasOneOutcomeByFirst
 one_outcome text = let s = some_outcome text in (s.0, s.1, λ q h. no_two text q s.0 h s.1)

@@ -13,7 +13,7 @@ use Rattle.document.specs.Holds.{Holds}
 use Rattle.document.specs.Kept.{names_of}
 use Rattle.document.specs.Kinds.{first_word, word_of, operands_of, form_with}
 use Rattle.document.specs.Lines.{Declarations, Line, act_line, prop_line, goal_line, prog_line, true_form, prop_form, not_form, and_form, or_form, next_form, until_form, shown, named_fields, InPlace, MalformedAt, ReadsAs}
-use Rattle.document.specs.Declaring.{New, NewName, NamesKnown, KnownName, FormOf, FormFits, Within, Faulty, shape, naming, limit, AddsForm, Adds}
+use Rattle.document.specs.Declaring.{NewByFirst, NewName, NamesKnown, KnownName, FormOfByFirst, FormFitsByFirst, WithinByFirst, FaultyByFirst, shape, naming, limit, AddsFormByFirst, AddsByFirst}
 use Rattle.document.specs.Texts.{fields}
 use Rattle.document.specs.Told.{word_in, NewBelow, Declares}
 use Rattle.document.specs.declared.declared.Declared.{Declared}
@@ -45,7 +45,7 @@ word_known (or_form n f g) = (word.Form, refl)
 word_known (next_form n a f) = (word.Form, refl)
 word_known (until_form n f p g) = (word.Form, refl)
 
-pub unknown_word : (d : Declarations) (bytes : List ℕ) → ((k : Word) → word_in bytes ≡ first_word k → ⊥) → Faulty d bytes 2 0
+pub unknown_word : (d : Declarations) (bytes : List ℕ) → ((k : Word) → word_in bytes ≡ first_word k → ⊥) → FaultyByFirst d bytes 2 0
 unknown_word d bytes un = shape (λ x r. let k = word_known x in un k.0 (ap (λ v. get_or v 0 []) r.0 ∙ k.1))
 
 -- a form line has the word of a kind
@@ -64,13 +64,13 @@ kind_in (until_form n f p g) e = (Until, refl)
 
 -- what all form lines share
 pub record FormLine (d : Declarations) (x : Line) (n : List ℕ) : Type 0 where
-  pub new_in : New d.form_names n → NewName d x
-  pub new_out : NewName d x → New d.form_names n
-  pub fits_in : FormFits d x → Within d x
-  pub fits_out : Within d x → FormFits d x
+  pub new_in : NewByFirst d.form_names n → NewName d x
+  pub new_out : NewName d x → NewByFirst d.form_names n
+  pub fits_in : FormFitsByFirst d x → WithinByFirst d x
+  pub fits_out : WithinByFirst d x → FormFitsByFirst d x
   pub sound : (c : ℕ) → MalformedAt x c → ⊥
   pub placed : InPlace d x
-  pub adds : (e : Declarations) → AddsForm d x n e → Adds d x e
+  pub adds : (e : Declarations) → AddsFormByFirst d x n e → AddsByFirst d x e
 
 form_lines : (d : Declarations) (k : Kind) (fs : List (List ℕ)) → FormLine d (form_with k fs) (get_or fs 1 [])
 form_lines d True fs = record { new_in = λ x. x; new_out = λ x. x; fits_in = λ x. x; fits_out = λ x. x; sound = λ c m. m; placed = tt; adds = λ e x. x }
@@ -140,7 +140,7 @@ reads Next fs e f h = five [] fs h ∙ ap (λ v. v ∷ get_or fs 1 [] ∷ get_or
 reads Until fs e f h = six [] fs h ∙ ap (λ v. v ∷ get_or fs 1 [] ∷ get_or fs 2 [] ∷ get_or fs 3 [] ∷ get_or fs 4 [] ∷ get_or fs 5 [] ∷ []) e ∙ ap (λ v. codes "form" ∷ get_or fs 1 [] ∷ v ∷ get_or fs 3 [] ∷ get_or fs 4 [] ∷ get_or fs 5 [] ∷ []) f
 
 -- the names that a form line uses are declared where it has a form
-known_from : (d : Declarations) (k : Kind) (fs : List (List ℕ)) (f : Form) → FormOf d (form_with k fs) f → NamesKnown d (form_with k fs)
+known_from : (d : Declarations) (k : Kind) (fs : List (List ℕ)) (f : Form) → FormOfByFirst d (form_with k fs) f → NamesKnown d (form_with k fs)
 known_from d True fs f h = tt
 known_from d Prop fs f h = (h.0, h.1)
 known_from d Not fs f h = (h.0, h.1)
@@ -150,7 +150,7 @@ known_from d Next fs f h = ((h.0, h.2), (h.1, h.3))
 known_from d Until fs f h = ((h.0, h.3), (h.1, h.4), (h.2, h.5))
 
 -- a line has one form at most
-pub one_form : (d : Declarations) (x : Line) (f g : Form) → FormOf d x f → FormOf d x g → f ≡ g
+pub one_form : (d : Declarations) (x : Line) (f g : Form) → FormOfByFirst d x f → FormOfByFirst d x g → f ≡ g
 one_form d (act_line n) f g a b = absurd a
 one_form d (prop_line n) f g a b = absurd a
 one_form d (goal_line n) f g a b = absurd a
@@ -182,7 +182,7 @@ module _ (held : Declared) (bytes : List ℕ) (w : word_in bytes ≡ codes "form
   abbrev first : List ℕ
   first = get_or (fields bytes) 1 []
 
-  pub form_kind : (d : Declarations) → ((k : Kind) → get_or (fields bytes) 2 [] ≡ word_of k → ⊥) → Faulty d bytes 2 0
+  pub form_kind : (d : Declarations) → ((k : Kind) → get_or (fields bytes) 2 [] ≡ word_of k → ⊥) → FaultyByFirst d bytes 2 0
   form_kind d un =
       shape (λ x r. let k = kind_in x (ap (λ v. get_or v 0 []) (sym r.0) ∙ w) in un k.0 (ap (λ v. get_or v 2 []) r.0 ∙ k.1))
 
@@ -190,43 +190,43 @@ module _ (held : Declared) (bytes : List ℕ) (w : word_in bytes ≡ codes "form
     abbrev line : Line
     line = form_with k (fields bytes)
 
-    pub form_count : (d : Declarations) → (length (fields bytes) ≡ 3 + operands_of k → ⊥) → Faulty d bytes 2 0
+    pub form_count : (d : Declarations) → (length (fields bytes) ≡ 3 + operands_of k → ⊥) → FaultyByFirst d bytes 2 0
     form_count d ne = wrong_count d bytes line (at_form k (fields bytes) w is) (λ e. ne (e ∙ shown_long k (fields bytes)))
 
-    pub form_name : (d : Declarations) → (Named first → ⊥) → Faulty d bytes 2 0
+    pub form_name : (d : Declarations) → (Named first → ⊥) → FaultyByFirst d bytes 2 0
     form_name d un = wrong_name d bytes line (at_form k (fields bytes) w is) (λ a. un (first_named k (fields bytes) a))
 
-    pub form_operands : (d : Declarations) → (((j : ℕ) → j < operands_of k → Named (get_or (fields bytes) (3 + j) [])) → ⊥) → Faulty d bytes 2 0
+    pub form_operands : (d : Declarations) → (((j : ℕ) → j < operands_of k → Named (get_or (fields bytes) (3 + j) [])) → ⊥) → FaultyByFirst d bytes 2 0
     form_operands d un = wrong_name d bytes line (at_form k (fields bytes) w is) (λ a. un (operands_named k (fields bytes) a))
 
     module _ (count : length (fields bytes) ≡ 3 + operands_of k) (named : Named first) (operands : (j : ℕ) → j < operands_of k → Named (get_or (fields bytes) (3 + j) [])) where
       form_reads : ReadsAs bytes line
       form_reads = (reads k (fields bytes) w is count, all_named k (fields bytes) named operands)
 
-      pub form_known : KnownName (names_of held.forms) first → (d : Declarations) → Holds held d → Faulty d bytes 4 0
+      pub form_known : KnownName (names_of held.forms) first → (d : Declarations) → Holds held d → FaultyByFirst d bytes 4 0
       form_known known =
-          of_all held (λ d. Faulty d bytes 4 0) (λ ps h.
+          of_all held (λ d. FaultyByFirst d bytes 4 0) (λ ps h.
           let s = form_lines (told held ps) k (fields bytes) in
           naming line form_reads s.sound (λ x. not_both (names_of held.forms) first (s.new_out x.0) known))
 
-      pub form_unknown : (d : Declarations) → (NamesKnown d line → ⊥) → Faulty d bytes 4 0
+      pub form_unknown : (d : Declarations) → (NamesKnown d line → ⊥) → FaultyByFirst d bytes 4 0
       form_unknown d un = naming line form_reads (form_lines d k (fields bytes)).sound (λ x. un x.1)
 
-      pub form_below : (g : LineFault) (f : Form) → ((d : Declarations) → Holds held d → FormOf d line f) → NewBelow (names_of held.forms) held.forms.count first 64 g
-          → (d : Declarations) → Holds held d → Faulty d bytes (line_fault_code g) (line_fault_column g)
+      pub form_below : (g : LineFault) (f : Form) → ((d : Declarations) → Holds held d → FormOfByFirst d line f) → NewBelow (names_of held.forms) held.forms.count first 64 g
+          → (d : Declarations) → Holds held d → FaultyByFirst d bytes (line_fault_code g) (line_fault_column g)
       form_below g f is-form h =
-          of_all held (λ d. Faulty d bytes (line_fault_code g) (line_fault_column g)) (λ ps x.
+          of_all held (λ d. FaultyByFirst d bytes (line_fault_code g) (line_fault_column g)) (λ ps x.
           let d = told held ps in
           let s = form_lines d k (fields bytes) in
           below_fault d bytes (names_of held.forms) held.forms.count first 64 g h
           (λ known. naming line form_reads s.sound (λ y. not_both (names_of held.forms) first (s.new_out y.0) known))
           (λ new high. limit line form_reads s.sound (s.new_in new, known_from d k (fields bytes) f (is-form d x)) (λ y. omega (arith, (s.fits_out y).0, forms_long held))))
 
-      module _ (f : Form) (is-form : (d : Declarations) → Holds held d → FormOf d line f)
+      module _ (f : Form) (is-form : (d : Declarations) → Holds held d → FormOfByFirst d line f)
           (known : Earlier held.props.count held.acts.count held.progs.count held.forms.count f) (new : Missing (names_of held.forms) first) where
-        pub form_heavy : 256 < held.weight + weight_in held.rows f → (d : Declarations) → Holds held d → Faulty d bytes 5 0
+        pub form_heavy : 256 < held.weight + weight_in held.rows f → (d : Declarations) → Holds held d → FaultyByFirst d bytes 5 0
         form_heavy heavy =
-            of_all held (λ d. Faulty d bytes 5 0) (λ ps x.
+            of_all held (λ d. FaultyByFirst d bytes 5 0) (λ ps x.
             let d = told held ps in
             let s = form_lines d k (fields bytes) in
             limit line form_reads s.sound (s.new_in new, known_from d k (fields bytes) f (is-form d x))
@@ -245,7 +245,7 @@ module _ (held : Declared) (bytes : List ℕ) (w : word_in bytes ≡ codes "form
             let d = told held ps in
             let s = form_lines d k (fields bytes) in
             let y = holds_form held next ps f few known more lines bases heavier rest.2 rest.3 x in
-            let one : (g : Form) → FormOf d line g → weight ps (take held.forms.count held.lines ++ g ∷ []) ≤ 256
+            let one : (g : Form) → FormOfByFirst d line g → weight ps (take held.forms.count held.lines ++ g ∷ []) ≤ 256
             = λ g is-g. subst (λ v. weight ps (take held.forms.count held.lines ++ v ∷ []) ≤ 256) (one_form d line f g (is-form d x) is-g) (omega (arith, weight_more held ps f x known)) in
             record {
               line = line;

@@ -9,7 +9,7 @@ use Rattle.program.proofs.Spellings.{one_program_in}
 use Rattle.document.specs.Documents.{weight}
 use Rattle.document.specs.Forms.{Earlier}
 use Rattle.document.specs.Lines.{Declarations, nothing, Line, act_line, prop_line, goal_line, prog_line, true_form, prop_form, not_form, and_form, or_form, next_form, until_form}
-use Rattle.document.specs.Declaring.{FormOf, WellNamed, Fine, AddsForm, Adds}
+use Rattle.document.specs.Declaring.{FormOfByFirst, WellNamedByFirst, FineByFirst, AddsFormByFirst, AddsByFirst}
 use Rattle.document.specs.declared.form.Form.{Form}
 use Rattle.document.specs.declared.form.Form.TheVariants.{True, Prop, Not, And, Or, Next, Until}
 use Rattle.document.proofs.FormLines.{FormLine, one_form}
@@ -20,12 +20,12 @@ data Grows (d : Declarations) : Line → Declarations → Type 0 where
   by_act : (n : List ℕ) → Grows d (act_line n) (record { acts = d.acts ++ n ∷ []; props = d.props; prog_names = d.prog_names; progs = d.progs; form_names = d.form_names; forms = d.forms })
   by_prop : (n : List ℕ) → Grows d (prop_line n) (record { acts = d.acts; props = d.props ++ n ∷ []; prog_names = d.prog_names; progs = d.progs; form_names = d.form_names; forms = d.forms })
   by_prog : (n text : List ℕ) (p : Program) → SpellsProgramIn text d.acts p → Grows d (prog_line n text) (record { acts = d.acts; props = d.props; prog_names = d.prog_names ++ n ∷ []; progs = d.progs ++ p ∷ []; form_names = d.form_names; forms = d.forms })
-  by_form : (x : Line) (n : List ℕ) (f : Form) → FormLine d x n → FormOf d x f → Grows d x (record { acts = d.acts; props = d.props; prog_names = d.prog_names; progs = d.progs; form_names = d.form_names ++ n ∷ []; forms = d.forms ++ f ∷ [] })
+  by_form : (x : Line) (n : List ℕ) (f : Form) → FormLine d x n → FormOfByFirst d x f → Grows d x (record { acts = d.acts; props = d.props; prog_names = d.prog_names; progs = d.progs; form_names = d.form_names ++ n ∷ []; forms = d.forms ++ f ∷ [] })
 
-grows_form : (d m : Declarations) (x : Line) (n : List ℕ) → FormLine d x n → AddsForm d x n m → Grows d x m
+grows_form : (d m : Declarations) (x : Line) (n : List ℕ) → FormLine d x n → AddsFormByFirst d x n m → Grows d x m
 grows_form d m x n s a = subst (Grows d x) (sym a.2) (by_form x n a.0 s a.1)
 
-grows : (d m : Declarations) (x : Line) → Adds d x m → Grows d x m
+grows : (d m : Declarations) (x : Line) → AddsByFirst d x m → Grows d x m
 grows d m (act_line n) a = subst (Grows d (act_line n)) (sym a) (by_act n)
 grows d m (prop_line n) a = subst (Grows d (prop_line n)) (sym a) (by_prop n)
 grows d m (goal_line n) a = absurd a
@@ -57,7 +57,7 @@ earlier_more props acts progs props' acts' progs' e (Next u f) a b c h = (omega 
 earlier_more props acts progs props' acts' progs' e (Until f p g) a b c h = (h.0, omega (arith, h.1), h.2)
 
 -- the form that a line declares speaks of what is declared
-form_earlier : (d : Declarations) (x : Line) (f : Form) → Sound d → FormOf d x f → Earlier (length d.props) (length d.acts) (length d.progs) (length d.forms) f
+form_earlier : (d : Declarations) (x : Line) (f : Form) → Sound d → FormOfByFirst d x f → Earlier (length d.props) (length d.acts) (length d.progs) (length d.forms) f
 form_earlier d (act_line n) f s h = absurd h
 form_earlier d (prop_line n) f s h = absurd h
 form_earlier d (goal_line n) f s h = absurd h
@@ -111,7 +111,7 @@ sound_grows d m x s (by_form y n f t h) =
           (cases_eq e (length d.forms));
     }
 
-pub sound_adds : (d m : Declarations) (x : Line) → Sound d → Adds d x m → Sound m
+pub sound_adds : (d m : Declarations) (x : Line) → Sound d → AddsByFirst d x m → Sound m
 sound_adds d m x s a = sound_grows d m x s (grows d m x a)
 
 -- within the limits
@@ -131,7 +131,7 @@ kept : (d : Declarations) (p : Program) → Sound d → weight (d.progs ++ p ∷
 kept d p s =
     weight_kept d.progs p (length d.props) (length d.acts) 0 d.forms (λ i l. subst (λ v. Earlier (length d.props) (length d.acts) (length d.progs) v (get_or d.forms i True)) (sym (zero-add i)) (s.refers i l))
 
-limits_grows : (d m : Declarations) (x : Line) → Sound d → Limits d → Fine d x → Grows d x m → Limits m
+limits_grows : (d m : Declarations) (x : Line) → Sound d → Limits d → FineByFirst d x → Grows d x m → Limits m
 limits_grows d m x s h fine (by_act n) =
     let long = length_push d.acts n in
     record { few_acts = omega (arith, fine.within); few_props = h.few_props; few_progs = h.few_progs; few_forms = h.few_forms; short = h.short; light = h.light }
@@ -158,14 +158,14 @@ limits_grows d m x s h fine (by_form y n f t is) =
     let w = t.fits_out fine.within in
     record { few_acts = h.few_acts; few_props = h.few_props; few_progs = h.few_progs; few_forms = omega (arith, w.0); short = h.short; light = w.1 f is }
 
-pub limits_adds : (d m : Declarations) (x : Line) → Sound d → Limits d → Fine d x → Adds d x m → Limits m
+pub limits_adds : (d m : Declarations) (x : Line) → Sound d → Limits d → FineByFirst d x → AddsByFirst d x m → Limits m
 limits_adds d m x s h fine a = limits_grows d m x s h fine (grows d m x a)
 
 -- where one more declaration is within the limits, the line is fine, and all before it is within them too
 abbrev Back : Declarations → Line → Type 0
-Back d x = Fine d x × Limits d
+Back d x = FineByFirst d x × Limits d
 
-back_grows : (d m : Declarations) (x : Line) → Sound d → WellNamed d x → Grows d x m → Limits m → Back d x
+back_grows : (d m : Declarations) (x : Line) → Sound d → WellNamedByFirst d x → Grows d x m → Limits m → Back d x
 back_grows d m x s well (by_act n) h =
     let long = length_push d.acts n in (
       record { spelled = λ c e. e; well_named = well; within = omega (arith, h.few_acts); in_place = tt },
@@ -207,5 +207,5 @@ back_grows d m x s well (by_form y n f t is) h =
       record { few_acts = h.few_acts; few_props = h.few_props; few_progs = h.few_progs; few_forms = omega (arith, h.few_forms); short = h.short; light = omega (arith, h.light) },
     )
 
-pub back : (d m : Declarations) (x : Line) → Sound d → WellNamed d x → Adds d x m → Limits m → Fine d x × Limits d
+pub back : (d m : Declarations) (x : Line) → Sound d → WellNamedByFirst d x → AddsByFirst d x m → Limits m → FineByFirst d x × Limits d
 back d m x s well a h = back_grows d m x s well (grows d m x a) h

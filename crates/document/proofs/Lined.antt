@@ -13,7 +13,7 @@ use Rattle.document.specs.Faults.{program_fault_code, program_fault_column, line
 use Rattle.document.specs.Holds.{Holds}
 use Rattle.document.specs.Kept.{names_of}
 use Rattle.document.specs.Lines.{Declarations, act_line, prop_line, prog_line, goal_line, ReadsAs}
-use Rattle.document.specs.Declaring.{KnownName, Faulty, program, naming, limit, order}
+use Rattle.document.specs.Declaring.{KnownName, FaultyByFirst, program, naming, limit, order}
 use Rattle.document.specs.Texts.{fields}
 use Rattle.document.specs.Told.{word_in, NewBelow, Declares, Aims}
 use Rattle.document.specs.declared.declared.Declared.{Declared}
@@ -27,11 +27,11 @@ use Rattle.document.proofs.Shown.{at_act, at_prop, at_prog, at_goal, wrong_count
 
 -- a name that is not new, or is one too many
 pub below_fault : (d : Declarations) (bytes : List ℕ) (names : List (List ℕ)) (count : ℕ) (n : List ℕ) (most : ℕ) (f : LineFault) → NewBelow names count n most f
-    → (KnownName names n → Faulty d bytes 4 0) → (Missing names n → most ≤ count → Faulty d bytes 5 0) → Faulty d bytes (line_fault_code f) (line_fault_column f)
+    → (KnownName names n → FaultyByFirst d bytes 4 0) → (Missing names n → most ≤ count → FaultyByFirst d bytes 5 0) → FaultyByFirst d bytes (line_fault_code f) (line_fault_column f)
 below_fault d bytes names count n most f h a b =
     ⊎_elim
-    (λ x. subst (λ v. Faulty d bytes (line_fault_code v) (line_fault_column v)) (sym x.0) (a x.1))
-    (λ x. subst (λ v. Faulty d bytes (line_fault_code v) (line_fault_column v)) (sym x.0) (b x.1 x.2))
+    (λ x. subst (λ v. FaultyByFirst d bytes (line_fault_code v) (line_fault_column v)) (sym x.0) (a x.1))
+    (λ x. subst (λ v. FaultyByFirst d bytes (line_fault_code v) (line_fault_column v)) (sym x.0) (b x.1 x.2))
     h
 
 module _ (held : Declared) (bytes : List ℕ) where
@@ -40,19 +40,19 @@ module _ (held : Declared) (bytes : List ℕ) where
 
   -- `act NAME`
   module _ (w : word_in bytes ≡ codes "act") where
-    pub act_count : (d : Declarations) → (length (fields bytes) ≡ 2 → ⊥) → Faulty d bytes 2 0
+    pub act_count : (d : Declarations) → (length (fields bytes) ≡ 2 → ⊥) → FaultyByFirst d bytes 2 0
     act_count d ne = wrong_count d bytes (act_line first) (at_act (fields bytes) w) ne
 
-    pub act_name : (d : Declarations) → (Named first → ⊥) → Faulty d bytes 2 0
+    pub act_name : (d : Declarations) → (Named first → ⊥) → FaultyByFirst d bytes 2 0
     act_name d un = wrong_name d bytes (act_line first) (at_act (fields bytes) w) (λ a. un a.0)
 
     act_reads : length (fields bytes) ≡ 2 → Named first → ReadsAs bytes (act_line first)
     act_reads count named = (two [] (fields bytes) count ∙ ap (λ v. v ∷ first ∷ []) w, (named, tt))
 
     pub act_below : (f : LineFault) → length (fields bytes) ≡ 2 → Named first → NewBelow (names_of held.acts) held.acts.count first 16 f
-        → (d : Declarations) → Holds held d → Faulty d bytes (line_fault_code f) (line_fault_column f)
+        → (d : Declarations) → Holds held d → FaultyByFirst d bytes (line_fault_code f) (line_fault_column f)
     act_below f count named h =
-        of_all held (λ d. Faulty d bytes (line_fault_code f) (line_fault_column f)) (λ ps x.
+        of_all held (λ d. FaultyByFirst d bytes (line_fault_code f) (line_fault_column f)) (λ ps x.
         let r = act_reads count named in
         below_fault (told held ps) bytes (names_of held.acts) held.acts.count first 16 f h
         (λ known. naming (act_line first) r (λ c m. m) (λ well. not_both (names_of held.acts) first well.0 known))
@@ -76,19 +76,19 @@ module _ (held : Declared) (bytes : List ℕ) where
 
   -- `prop NAME`
   module _ (w : word_in bytes ≡ codes "prop") where
-    pub prop_count : (d : Declarations) → (length (fields bytes) ≡ 2 → ⊥) → Faulty d bytes 2 0
+    pub prop_count : (d : Declarations) → (length (fields bytes) ≡ 2 → ⊥) → FaultyByFirst d bytes 2 0
     prop_count d ne = wrong_count d bytes (prop_line first) (at_prop (fields bytes) w) ne
 
-    pub prop_name : (d : Declarations) → (Named first → ⊥) → Faulty d bytes 2 0
+    pub prop_name : (d : Declarations) → (Named first → ⊥) → FaultyByFirst d bytes 2 0
     prop_name d un = wrong_name d bytes (prop_line first) (at_prop (fields bytes) w) (λ a. un a.0)
 
     prop_reads : length (fields bytes) ≡ 2 → Named first → ReadsAs bytes (prop_line first)
     prop_reads count named = (two [] (fields bytes) count ∙ ap (λ v. v ∷ first ∷ []) w, (named, tt))
 
     pub prop_below : (f : LineFault) → length (fields bytes) ≡ 2 → Named first → NewBelow (names_of held.props) held.props.count first 16 f
-        → (d : Declarations) → Holds held d → Faulty d bytes (line_fault_code f) (line_fault_column f)
+        → (d : Declarations) → Holds held d → FaultyByFirst d bytes (line_fault_code f) (line_fault_column f)
     prop_below f count named h =
-        of_all held (λ d. Faulty d bytes (line_fault_code f) (line_fault_column f)) (λ ps x.
+        of_all held (λ d. FaultyByFirst d bytes (line_fault_code f) (line_fault_column f)) (λ ps x.
         let r = prop_reads count named in
         below_fault (told held ps) bytes (names_of held.props) held.props.count first 16 f h
         (λ known. naming (prop_line first) r (λ c m. m) (λ well. not_both (names_of held.props) first well.0 known))
@@ -115,17 +115,17 @@ module _ (held : Declared) (bytes : List ℕ) where
     abbrev text : List ℕ
     text = get_or (fields bytes) 2 []
 
-    pub prog_count : (d : Declarations) → (length (fields bytes) ≡ 3 → ⊥) → Faulty d bytes 2 0
+    pub prog_count : (d : Declarations) → (length (fields bytes) ≡ 3 → ⊥) → FaultyByFirst d bytes 2 0
     prog_count d ne = wrong_count d bytes (prog_line first text) (at_prog (fields bytes) w) ne
 
-    pub prog_name : (d : Declarations) → (Named first → ⊥) → Faulty d bytes 2 0
+    pub prog_name : (d : Declarations) → (Named first → ⊥) → FaultyByFirst d bytes 2 0
     prog_name d un = wrong_name d bytes (prog_line first text) (at_prog (fields bytes) w) (λ a. un a.0)
 
     module _ (count : length (fields bytes) ≡ 3) (named : Named first) where
       prog_reads : ReadsAs bytes (prog_line first text)
       prog_reads = (three [] (fields bytes) count ∙ ap (λ v. v ∷ first ∷ text ∷ []) w, (named, tt))
 
-      pub prog_malformed : (d : Declarations) (f : ProgramFault) → MalformedBy text f → Faulty d bytes (program_fault_code f) (program_fault_column f)
+      pub prog_malformed : (d : Declarations) (f : ProgramFault) → MalformedBy text f → FaultyByFirst d bytes (program_fault_code f) (program_fault_column f)
       prog_malformed d (Malformed column) h = program (prog_line first text) prog_reads h
       prog_malformed d Undeclared h = absurd h
       prog_malformed d TooMany h = absurd h
@@ -134,22 +134,22 @@ module _ (held : Declared) (bytes : List ℕ) where
         sound : (c : ℕ) → FaultAt text c → ⊥
         sound c h = h.unwell well
 
-        pub prog_known : KnownName (names_of held.progs) first → (d : Declarations) → Holds held d → Faulty d bytes 4 0
+        pub prog_known : KnownName (names_of held.progs) first → (d : Declarations) → Holds held d → FaultyByFirst d bytes 4 0
         prog_known known =
-            of_all held (λ d. Faulty d bytes 4 0) (λ ps h. naming (prog_line first text) prog_reads sound (λ x. not_both (names_of held.progs) first x.0 known))
+            of_all held (λ d. FaultyByFirst d bytes 4 0) (λ ps h. naming (prog_line first text) prog_reads sound (λ x. not_both (names_of held.progs) first x.0 known))
 
         pub prog_refused : (f : ProgramFault) → Missing (names_of held.progs) first → RefusedIn text (names_of held.acts) f
-            → OneProgramIn → (d : Declarations) → Holds held d → Faulty d bytes (program_fault_code f) (program_fault_column f)
+            → OneProgramIn → (d : Declarations) → Holds held d → FaultyByFirst d bytes (program_fault_code f) (program_fault_column f)
         prog_refused (Malformed column) new h one = λ d x. absurd (h.unwell well)
         prog_refused Undeclared new h one =
-            of_all held (λ d. Faulty d bytes 4 0) (λ ps x. naming (prog_line first text) prog_reads sound (λ y. h.1 y.1.0 y.1.1))
+            of_all held (λ d. FaultyByFirst d bytes 4 0) (λ ps x. naming (prog_line first text) prog_reads sound (λ y. h.1 y.1.0 y.1.1))
         prog_refused TooMany new h one =
-            of_all held (λ d. Faulty d bytes 5 0) (λ ps x. limit (prog_line first text) prog_reads sound (new, (h.0, h.1)) (λ y. omega (arith, y.1 h.0 h.1, h.2)))
+            of_all held (λ d. FaultyByFirst d bytes 5 0) (λ ps x. limit (prog_line first text) prog_reads sound (new, (h.0, h.1)) (λ y. omega (arith, y.1 h.0 h.1, h.2)))
 
         pub prog_below : (f : LineFault) (row : Row) → SpellsRowIn text (names_of held.acts) row → NewBelow (names_of held.progs) held.progs.count first 16 f
-            → (d : Declarations) → Holds held d → Faulty d bytes (line_fault_code f) (line_fault_column f)
+            → (d : Declarations) → Holds held d → FaultyByFirst d bytes (line_fault_code f) (line_fault_column f)
         prog_below f row says h =
-            of_all held (λ d. Faulty d bytes (line_fault_code f) (line_fault_column f)) (λ ps x.
+            of_all held (λ d. FaultyByFirst d bytes (line_fault_code f) (line_fault_column f)) (λ ps x.
             below_fault (told held ps) bytes (names_of held.progs) held.progs.count first 16 f h
             (λ known. naming (prog_line first text) prog_reads sound (λ y. not_both (names_of held.progs) first y.0 known))
             (λ new high. limit (prog_line first text) prog_reads sound (new, (says.0, says.1)) (λ y. omega (arith, x.progs, y.0))))
@@ -185,23 +185,23 @@ module _ (held : Declared) (bytes : List ℕ) where
 
   -- `goal FORM`
   module _ (w : word_in bytes ≡ codes "goal") where
-    pub goal_count : (d : Declarations) → (length (fields bytes) ≡ 2 → ⊥) → Faulty d bytes 2 0
+    pub goal_count : (d : Declarations) → (length (fields bytes) ≡ 2 → ⊥) → FaultyByFirst d bytes 2 0
     goal_count d ne = wrong_count d bytes (goal_line first) (at_goal (fields bytes) w) ne
 
-    pub goal_name : (d : Declarations) → (Named first → ⊥) → Faulty d bytes 2 0
+    pub goal_name : (d : Declarations) → (Named first → ⊥) → FaultyByFirst d bytes 2 0
     goal_name d un = wrong_name d bytes (goal_line first) (at_goal (fields bytes) w) (λ a. un a.0)
 
     module _ (count : length (fields bytes) ≡ 2) (named : Named first) where
       goal_reads : ReadsAs bytes (goal_line first)
       goal_reads = (two [] (fields bytes) count ∙ ap (λ v. v ∷ first ∷ []) w, (named, tt))
 
-      pub goal_unknown : Missing (names_of held.forms) first → (d : Declarations) → Holds held d → Faulty d bytes 4 0
+      pub goal_unknown : Missing (names_of held.forms) first → (d : Declarations) → Holds held d → FaultyByFirst d bytes 4 0
       goal_unknown new =
-          of_all held (λ d. Faulty d bytes 4 0) (λ ps h. naming (goal_line first) goal_reads (λ c m. m) (λ x. not_both (names_of held.forms) first new x.1))
+          of_all held (λ d. FaultyByFirst d bytes 4 0) (λ ps h. naming (goal_line first) goal_reads (λ c m. m) (λ x. not_both (names_of held.forms) first new x.1))
 
-      pub goal_early : (i : ℕ) → NumberIn (names_of held.forms) first i → held.acts.count ≡ 0 → (d : Declarations) → Holds held d → Faulty d bytes 6 0
+      pub goal_early : (i : ℕ) → NumberIn (names_of held.forms) first i → held.acts.count ≡ 0 → (d : Declarations) → Holds held d → FaultyByFirst d bytes 6 0
       goal_early i is none =
-          of_all held (λ d. Faulty d bytes 6 0) (λ ps h. order (goal_line first) goal_reads (λ c m. m) (tt, (i, is)) tt (λ x. omega (arith, acts_long held)))
+          of_all held (λ d. FaultyByFirst d bytes 6 0) (λ ps h. order (goal_line first) goal_reads (λ c m. m) (tt, (i, is)) tt (λ x. omega (arith, acts_long held)))
 
       pub goal_done : (doc : Document) → NumberIn (names_of held.forms) first doc.goal → 0 < held.acts.count → doc.declared ≡ held
           → (d : Declarations) → Holds held d → Aims held d bytes doc

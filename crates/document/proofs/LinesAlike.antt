@@ -90,7 +90,7 @@ one_form_more : (d : Declarations) (n : List ℕ) → AllApart d → Missing d.f
     → AllApart (record { acts = d.acts; props = d.props; prog_names = d.prog_names; progs = d.progs; form_names = d.form_names ++ n ∷ []; forms = fs })
 one_form_more d n a new fs = record { acts = a.acts; props = a.props; progs = a.progs; forms = apart_push d.form_names n a.forms new }
 
-pub more_apart : (d e : Declarations) (x : Line) → AllApart d → NewName d x → first.Adds d x e → AllApart e
+pub more_apart : (d e : Declarations) (x : Line) → AllApart d → NewName d x → first.AddsByFirst d x e → AllApart e
 more_apart d e (act_line n) a new is = subst AllApart (sym is) (record { acts = apart_push d.acts n a.acts new; props = a.props; progs = a.progs; forms = a.forms })
 more_apart d e (prop_line n) a new is = subst AllApart (sym is) (record { acts = a.acts; props = apart_push d.props n a.props new; progs = a.progs; forms = a.forms })
 more_apart d e (goal_line f) a new is = absurd is
@@ -104,7 +104,7 @@ more_apart d e (next_form n u f) a new is = subst AllApart (sym is.2) (one_form_
 more_apart d e (until_form n f p g) a new is = subst AllApart (sym is.2) (one_form_more d n a new _)
 
 module _ (d : Declarations) where
-  pub well_named_to : (x : Line) → AllApart d → place.WellNamed d x → first.WellNamed d x
+  pub well_named_to : (x : Line) → AllApart d → place.WellNamed d x → first.WellNamedByFirst d x
   well_named_to (act_line n) a h = (new_to d.acts n h, tt)
   well_named_to (prop_line n) a h = (new_to d.props n h, tt)
   well_named_to (goal_line f) a h = (tt, known_to d.form_names f h)
@@ -117,7 +117,7 @@ module _ (d : Declarations) where
   well_named_to (next_form n u f) a h = (new_to d.form_names n h.0, (known_to d.acts u h.1, known_to d.form_names f h.2))
   well_named_to (until_form n f p g) a h = (new_to d.form_names n h.0, (known_to d.form_names f h.1, known_to d.prog_names p h.2, known_to d.form_names g h.3))
 
-  pub well_named_from : (x : Line) → first.WellNamed d x → place.WellNamed d x
+  pub well_named_from : (x : Line) → first.WellNamedByFirst d x → place.WellNamed d x
   well_named_from (act_line n) h = new_from d.acts n h.0
   well_named_from (prop_line n) h = new_from d.props n h.0
   well_named_from (goal_line f) h = known_from d.form_names f h.1
@@ -130,7 +130,7 @@ module _ (d : Declarations) where
   well_named_from (next_form n u f) h = (new_from d.form_names n h.0, known_from d.acts u h.1.0, known_from d.form_names f h.1.1)
   well_named_from (until_form n f p g) h = (new_from d.form_names n h.0, known_from d.form_names f h.1.0, known_from d.prog_names p h.1.1, known_from d.form_names g h.1.2)
 
-  form_to : (x : Line) (e : Form) → AllApart d → place.FormOf d x e → first.FormOf d x e
+  form_to : (x : Line) (e : Form) → AllApart d → place.FormOf d x e → first.FormOfByFirst d x e
   form_to (act_line n) e a h = h
   form_to (prop_line n) e a h = h
   form_to (goal_line f) e a h = h
@@ -143,7 +143,7 @@ module _ (d : Declarations) where
   form_to (next_form n u f) e a h = (h.0, h.1, number_to d.acts u h.0 a.acts h.2, number_to d.form_names f h.1 a.forms h.3, h.4)
   form_to (until_form n f p g) e a h = (h.0, h.1, h.2, number_to d.form_names f h.0 a.forms h.3, number_to d.prog_names p h.1 a.progs h.4, number_to d.form_names g h.2 a.forms h.5, h.6)
 
-  form_from : (x : Line) (e : Form) → first.FormOf d x e → place.FormOf d x e
+  form_from : (x : Line) (e : Form) → first.FormOfByFirst d x e → place.FormOf d x e
   form_from (act_line n) e h = h
   form_from (prop_line n) e h = h
   form_from (goal_line f) e h = h
@@ -156,13 +156,13 @@ module _ (d : Declarations) where
   form_from (next_form n u f) e h = (h.0, h.1, number_from d.acts u h.0 h.2, number_from d.form_names f h.1 h.3, h.4)
   form_from (until_form n f p g) e h = (h.0, h.1, h.2, number_from d.form_names f h.0 h.3, number_from d.prog_names p h.1 h.4, number_from d.form_names g h.2 h.5, h.6)
 
-  fits_to : (x : Line) → place.FormFits d x → first.FormFits d x
+  fits_to : (x : Line) → place.FormFits d x → first.FormFitsByFirst d x
   fits_to x h = (h.0, λ e is. h.1 e (form_from x e is))
 
-  fits_from : (x : Line) → AllApart d → first.FormFits d x → place.FormFits d x
+  fits_from : (x : Line) → AllApart d → first.FormFitsByFirst d x → place.FormFits d x
   fits_from x a h = (h.0, λ e is. h.1 e (form_to x e a is))
 
-  pub within_to : (x : Line) → place.Within d x → first.Within d x
+  pub within_to : (x : Line) → place.Within d x → first.WithinByFirst d x
   within_to (act_line n) h = h
   within_to (prop_line n) h = h
   within_to (goal_line f) h = h
@@ -175,7 +175,7 @@ module _ (d : Declarations) where
   within_to (next_form n u f) h = fits_to (next_form n u f) h
   within_to (until_form n f p g) h = fits_to (until_form n f p g) h
 
-  pub within_from : (x : Line) → AllApart d → first.Within d x → place.Within d x
+  pub within_from : (x : Line) → AllApart d → first.WithinByFirst d x → place.Within d x
   within_from (act_line n) a h = h
   within_from (prop_line n) a h = h
   within_from (goal_line f) a h = h
@@ -188,13 +188,13 @@ module _ (d : Declarations) where
   within_from (next_form n u f) a h = fits_from (next_form n u f) a h
   within_from (until_form n f p g) a h = fits_from (until_form n f p g) a h
 
-  adds_form_to : (x : Line) (n : List ℕ) (e : Declarations) → AllApart d → place.AddsForm d x n e → first.AddsForm d x n e
+  adds_form_to : (x : Line) (n : List ℕ) (e : Declarations) → AllApart d → place.AddsForm d x n e → first.AddsFormByFirst d x n e
   adds_form_to x n e a h = (h.0, form_to x h.0 a h.1, h.2)
 
-  adds_form_from : (x : Line) (n : List ℕ) (e : Declarations) → first.AddsForm d x n e → place.AddsForm d x n e
+  adds_form_from : (x : Line) (n : List ℕ) (e : Declarations) → first.AddsFormByFirst d x n e → place.AddsForm d x n e
   adds_form_from x n e h = (h.0, form_from x h.0 h.1, h.2)
 
-  pub adds_to : (x : Line) (e : Declarations) → AllApart d → place.Adds d x e → first.Adds d x e
+  pub adds_to : (x : Line) (e : Declarations) → AllApart d → place.Adds d x e → first.AddsByFirst d x e
   adds_to (act_line n) e a h = h
   adds_to (prop_line n) e a h = h
   adds_to (goal_line f) e a h = h
@@ -207,7 +207,7 @@ module _ (d : Declarations) where
   adds_to (next_form n u f) e a h = adds_form_to (next_form n u f) n e a h
   adds_to (until_form n f p g) e a h = adds_form_to (until_form n f p g) n e a h
 
-  pub adds_from : (x : Line) (e : Declarations) → first.Adds d x e → place.Adds d x e
+  pub adds_from : (x : Line) (e : Declarations) → first.AddsByFirst d x e → place.Adds d x e
   adds_from (act_line n) e h = h
   adds_from (prop_line n) e h = h
   adds_from (goal_line f) e h = h
@@ -220,20 +220,20 @@ module _ (d : Declarations) where
   adds_from (next_form n u f) e h = adds_form_from (next_form n u f) n e h
   adds_from (until_form n f p g) e h = adds_form_from (until_form n f p g) n e h
 
-  pub fine_to : (x : Line) → AllApart d → place.Fine d x → first.Fine d x
+  pub fine_to : (x : Line) → AllApart d → place.Fine d x → first.FineByFirst d x
   fine_to x a f = record { spelled = f.spelled; well_named = well_named_to x a f.well_named; within = within_to x f.within; in_place = f.in_place }
 
-  pub fine_from : (x : Line) → AllApart d → first.Fine d x → place.Fine d x
+  pub fine_from : (x : Line) → AllApart d → first.FineByFirst d x → place.Fine d x
   fine_from x a f = record { spelled = f.spelled; well_named = well_named_from x f.well_named; within = within_from x a f.within; in_place = f.in_place }
 
-  pub faulty_to : {l : List ℕ} {c k : ℕ} → AllApart d → place.Faulty d l c k → first.Faulty d l c k
+  pub faulty_to : {l : List ℕ} {c k : ℕ} → AllApart d → place.Faulty d l c k → first.FaultyByFirst d l c k
   faulty_to a (place.shape u) = first.shape u
   faulty_to a (place.program x r m) = first.program x r m
   faulty_to a (place.naming x r m u) = first.naming x r m (λ w. u (well_named_from x w))
   faulty_to a (place.limit x r m w u) = first.limit x r m (well_named_to x a w) (λ v. u (within_from x a v))
   faulty_to a (place.order x r m w v u) = first.order x r m (well_named_to x a w) (within_to x v) u
 
-  pub faulty_from : {l : List ℕ} {c k : ℕ} → AllApart d → first.Faulty d l c k → place.Faulty d l c k
+  pub faulty_from : {l : List ℕ} {c k : ℕ} → AllApart d → first.FaultyByFirst d l c k → place.Faulty d l c k
   faulty_from a (first.shape u) = place.shape u
   faulty_from a (first.program x r m) = place.program x r m
   faulty_from a (first.naming x r m u) = place.naming x r m (λ w. u (well_named_to x a w))

@@ -8,7 +8,7 @@ use Rattle.document.specs.LoadsAlike.{LoadsAlike}
 use Rattle.document.proofs.Deciding.{one_outcome}
 use Rattle.document.proofs.LinesAlike.{AllApart, nothing_apart, more_apart, adds_to, adds_from, fine_to, fine_from, faulty_to, faulty_from, goal_to, goal_from}
 
-comes_to : {d : Declarations} {n : ℕ} {ls : List (List ℕ)} {o : Outcome} → AllApart d → place.Comes d n ls o → first.Comes d n ls o
+comes_to : {d : Declarations} {n : ℕ} {ls : List (List ℕ)} {o : Outcome} → AllApart d → place.Comes d n ls o → first.ComesByFirst d n ls o
 comes_to a place.no_goal = first.no_goal
 comes_to a place.unended = first.unended
 comes_to {d} a (place.faulty f) = first.faulty (faulty_to d a f)
@@ -19,7 +19,7 @@ comes_to {d} a (place.declares {e = e} x r f s c) =
 comes_to {d} a (place.aims {goal = goal} f r g i) = first.aims f r (fine_to d (goal_line f) a g) (goal_to d f goal a i)
 comes_to {d} a (place.line_after f r g ne) = first.line_after f r (fine_to d (goal_line f) a g) ne
 
-comes_from : {d : Declarations} {n : ℕ} {ls : List (List ℕ)} {o : Outcome} → AllApart d → first.Comes d n ls o → place.Comes d n ls o
+comes_from : {d : Declarations} {n : ℕ} {ls : List (List ℕ)} {o : Outcome} → AllApart d → first.ComesByFirst d n ls o → place.Comes d n ls o
 comes_from a first.no_goal = place.no_goal
 comes_from a first.unended = place.unended
 comes_from {d} a (first.faulty f) = place.faulty (faulty_from d a f)
@@ -28,11 +28,11 @@ comes_from {d} a (first.declares {e = e} x r f s c) =
 comes_from {d} a (first.aims {goal = goal} f r g i) = place.aims f r (fine_from d (goal_line f) a g) (goal_from d f goal i)
 comes_from {d} a (first.line_after f r g ne) = place.line_after f r (fine_from d (goal_line f) a g) ne
 
-loads_to : (text : List ℕ) (o : Outcome) → place.Loads text o → first.Loads text o
+loads_to : (text : List ℕ) (o : Outcome) → place.Loads text o → first.LoadsByFirst text o
 loads_to text o (place.too_long h) = first.too_long h
 loads_to text o (place.read h c) = first.read h (comes_to nothing_apart c)
 
-loads_from : (text : List ℕ) (o : Outcome) → first.Loads text o → place.Loads text o
+loads_from : (text : List ℕ) (o : Outcome) → first.LoadsByFirst text o → place.Loads text o
 loads_from text o (first.too_long h) = place.too_long h
 loads_from text o (first.read h c) = place.read h (comes_from nothing_apart c)
 

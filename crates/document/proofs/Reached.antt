@@ -5,10 +5,10 @@ use Rattle.std.proofs.lemmas.Bool.{cond-true, cond-false, eq-eqb, ne_eqb, cases_
 use Rattle.document.specs.Faults.{line_fault_code, line_fault_column}
 use Rattle.document.specs.Holds.{Holds}
 use Rattle.document.specs.Lines.{Declarations, nothing}
-use Rattle.document.specs.Declaring.{Faulty}
+use Rattle.document.specs.Declaring.{FaultyByFirst}
 use Rattle.document.specs.Loading.{Goes_on, LineRead}
 use Rattle.document.specs.Outcomes.{Outcome, taken, refused}
-use Rattle.document.specs.Coming.{Comes, no_goal, unended, faulty, declares, aims, line_after}
+use Rattle.document.specs.Coming.{ComesByFirst, no_goal, unended, faulty, declares, aims, line_after}
 use Rattle.document.specs.Texts.{pieces, put_first}
 use Rattle.document.specs.Told.{Declares, Aims}
 use Rattle.document.specs.declared.declared.Declared.{Declared}
@@ -40,12 +40,12 @@ some_left b (x ∷ xs) h e =
 -- the document was read, and pieces are left
 abbrev pub Read : List ℕ → ℕ → List (List ℕ) → Document → Type 0
 Read text number left doc =
-    (d : Declarations) × Holds doc.declared d × (left ≡ [] ∷ [] → Comes nothing 1 (pieces 10 text) (taken d doc.goal))
-    × ((left ≡ [] ∷ [] → ⊥) → Comes nothing 1 (pieces 10 text) (refused 6 number 0))
+    (d : Declarations) × Holds doc.declared d × (left ≡ [] ∷ [] → ComesByFirst nothing 1 (pieces 10 text) (taken d doc.goal))
+    × ((left ≡ [] ∷ [] → ⊥) → ComesByFirst nothing 1 (pieces 10 text) (refused 6 number 0))
 
 -- what comes of the pieces that are left comes of the whole
 abbrev pub Unread : List ℕ → ℕ → List (List ℕ) → Declared → Type 0
-Unread text number left held = (d : Declarations) × Holds held d × ((o : Outcome) → Comes d number left o → Comes nothing 1 (pieces 10 text) o)
+Unread text number left held = (d : Declarations) × Holds held d × ((o : Outcome) → ComesByFirst d number left o → ComesByFirst nothing 1 (pieces 10 text) o)
 
 abbrev pub Reached : List ℕ → ℕ → List (List ℕ) → Progress → Type 0
 Reached text number left progress = MatchOption progress.document (Unread text number left progress.declared) (Read text number left)
@@ -67,16 +67,16 @@ step_on text number l rest progress next some (d, h, f) on = by next.document (o
           x.after,
           x.holds,
           λ o c.
-              f o (subst (λ v. Comes d number (l ∷ v) o) (sym p.2)
-              (declares x.line x.reads x.fine x.adds (subst (λ v. Comes x.after (suc number) v o) p.2 (subst (λ v. Comes x.after v rest o) (add-one number) c)))),
+              f o (subst (λ v. ComesByFirst d number (l ∷ v) o) (sym p.2)
+              (declares x.line x.reads x.fine x.adds (subst (λ v. ComesByFirst x.after (suc number) v o) p.2 (subst (λ v. ComesByFirst x.after v rest o) (add-one number) c)))),
         )
     by (Some doc) x =
         let p = first_of rest some in (
           d,
           subst (λ v. Holds v d) (sym x.declared) h,
-          λ e. f (taken d doc.goal) (subst (λ v. Comes d number (l ∷ v) (taken d doc.goal)) (sym e) (aims x.name x.reads x.fine x.number)),
-          λ ne. subst (λ v. Comes nothing 1 (pieces 10 text) (refused 6 v 0)) (sym (add-one number))
-              (f (refused 6 (suc number) 0) (subst (λ v. Comes d number (l ∷ v) (refused 6 (suc number) 0)) (sym p.2) (line_after x.name x.reads x.fine (λ e. ne (p.2 ∙ e))))),
+          λ e. f (taken d doc.goal) (subst (λ v. ComesByFirst d number (l ∷ v) (taken d doc.goal)) (sym e) (aims x.name x.reads x.fine x.number)),
+          λ ne. subst (λ v. ComesByFirst nothing 1 (pieces 10 text) (refused 6 v 0)) (sym (add-one number))
+              (f (refused 6 (suc number) 0) (subst (λ v. ComesByFirst d number (l ∷ v) (refused 6 (suc number) 0)) (sym p.2) (line_after x.name x.reads x.fine (λ e. ne (p.2 ∙ e))))),
         )
 
 same_err : {X : Type 0} {f g : LineFault} → ◌≡◌ {A = Result X LineFault} (Err f) (Err g) → f ≡ g
@@ -109,21 +109,21 @@ module _ (text : List ℕ) (at end number : ℕ) (progress : Progress) (low : at
       by (Some doc) u r = absurd (no_err r)
 
   abbrev FaultComes : LineFault → Type 0
-  FaultComes f = Comes nothing 1 (pieces 10 text) (refused (line_fault_code f) number (line_fault_column f))
+  FaultComes f = ComesByFirst nothing 1 (pieces 10 text) (refused (line_fault_code f) number (line_fault_column f))
 
   last_line : Unread text number (pieces 10 (drop at text)) progress.declared → length text ≤ end → FaultComes Shape
   last_line u past =
       let e : end ≡ length text = omega arith in
       let ps : pieces 10 (drop at text) ≡ (get_or text at 0 ∷ drop (at + 1) text) ∷ []
       = piece_last 10 text at (subst (Clear 10 text at) e clear) ∙ ap (λ v. v ∷ []) (drop_more text at 0 less) in
-      u.2 (refused 2 number 0) (subst (λ v. Comes u.0 number v (refused 2 number 0)) (sym ps) unended)
+      u.2 (refused 2 number 0) (subst (λ v. ComesByFirst u.0 number v (refused 2 number 0)) (sym ps) unended)
 
   bad_line : (f : LineFault) → Unread text number (pieces 10 (drop at text)) progress.declared → end < length text
-      → ((d : Declarations) → Holds progress.declared d → Faulty d line (line_fault_code f) (line_fault_column f)) → FaultComes f
+      → ((d : Declarations) → Holds progress.declared d → FaultyByFirst d line (line_fault_code f) (line_fault_column f)) → FaultComes f
   bad_line f u whole bad =
       let p = first_of left (pieces_some 10 (drop (end + 1) text)) in
       u.2 (refused (line_fault_code f) number (line_fault_column f))
-      (subst (λ v. Comes u.0 number v (refused (line_fault_code f) number (line_fault_column f))) (sym (parted whole ∙ ap (λ v. line ∷ v) p.2)) (faulty (bad u.0 u.1)))
+      (subst (λ v. ComesByFirst u.0 number v (refused (line_fault_code f) number (line_fault_column f))) (sym (parted whole ∙ ap (λ v. line ∷ v) p.2)) (faulty (bad u.0 u.1)))
 
   pub reached_fault : (f : LineFault) (whole : Bool) → (whole ≡ true → end < length text) → (whole ≡ false → length text ≤ end) → LineRead progress line whole (Err f) → FaultComes f
   reached_fault f whole wide shut read = by progress.document reached read
@@ -131,7 +131,7 @@ module _ (text : List ℕ) (at end number : ℕ) (progress : Progress) (low : at
       by : (o : Option Document) → MatchOption o (Unread text number (pieces 10 (drop at text)) progress.declared) (Read text number (pieces 10 (drop at text)))
           → MatchOption o
           ((whole ≡ false → ◌≡◌ {A = Result Progress LineFault} (Err f) (Err Shape))
-          × (whole ≡ true → (d : Declarations) → Holds progress.declared d → Faulty d line (line_fault_code f) (line_fault_column f)))
+          × (whole ≡ true → (d : Declarations) → Holds progress.declared d → FaultyByFirst d line (line_fault_code f) (line_fault_column f)))
           (λ _. ◌≡◌ {A = Result Progress LineFault} (Err f) (Err Order))
           → FaultComes f
       by None u r =
@@ -145,6 +145,6 @@ module _ (text : List ℕ) (at end number : ℕ) (progress : Progress) (low : at
 
 -- nothing is left
 pub reached_end : (text : List ℕ) (at number : ℕ) (held : Declared) → length text ≤ at → Unread text number (pieces 10 (drop at text)) held
-    → Comes nothing 1 (pieces 10 text) (refused 6 number 0)
+    → ComesByFirst nothing 1 (pieces 10 text) (refused 6 number 0)
 reached_end text at number held past u =
-    u.2 (refused 6 number 0) (subst (λ v. Comes u.0 number v (refused 6 number 0)) (sym (ap (pieces 10) (drop_all at text past))) no_goal)
+    u.2 (refused 6 number 0) (subst (λ v. ComesByFirst u.0 number v (refused 6 number 0)) (sym (ap (pieces 10) (drop_all at text past))) no_goal)

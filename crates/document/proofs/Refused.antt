@@ -6,15 +6,15 @@ use Rattle.std.proofs.lemmas.Bool.{both_ways}
 use Rattle.program.specs.Spellings.{Missing}
 use Rattle.document.specs.Faults.{line_fault_code, line_fault_column}
 use Rattle.document.specs.Lines.{Declarations}
-use Rattle.document.specs.Declaring.{KnownName, Faulty}
+use Rattle.document.specs.Declaring.{KnownName, FaultyByFirst}
 use Rattle.document.specs.declared.fault.LineFault.{LineFault}
 
 -- the exit of a `?`, where the fault is known
 pub refused : {X : Type 0} (P : X → Type 0) (d : Declarations) (bytes : List ℕ) (r : Result X LineFault) (f g : LineFault)
-    → IsErrAnd r (λ y. y ≡ f) → f ≡ g → Faulty d bytes (line_fault_code g) (line_fault_column g) → MatchResult r P (λ y. Faulty d bytes (line_fault_code y) (line_fault_column y))
+    → IsErrAnd r (λ y. y ≡ f) → f ≡ g → FaultyByFirst d bytes (line_fault_code g) (line_fault_column g) → MatchResult r P (λ y. FaultyByFirst d bytes (line_fault_code y) (line_fault_column y))
 refused P d bytes r f g e is h =
     let p = err_from_is_err_and r e in
-    subst (λ v. MatchResult v P (λ y. Faulty d bytes (line_fault_code y) (line_fault_column y))) (sym (p.1 ∙ ap Err (p.2 ∙ is))) h
+    subst (λ v. MatchResult v P (λ y. FaultyByFirst d bytes (line_fault_code y) (line_fault_column y))) (sym (p.1 ∙ ap Err (p.2 ∙ is))) h
 
 pub found : (o : Option ℕ) (P : Type 0) (Q : ℕ → Type 0) → is_some o ≡ true → options.MatchOption o P Q → (i : ℕ) × Q i
 found None P Q e h = absurd (both_ways false refl e)

@@ -4,7 +4,7 @@ use Rattle.std.specs.List.{AllByRecursion}
 use Rattle.program.specs.Names.{Named}
 use Rattle.document.specs.Kinds.{word_of, form_with}
 use Rattle.document.specs.Lines.{Declarations, Line, act_line, prop_line, goal_line, prog_line, true_form, prop_form, not_form, and_form, or_form, next_form, until_form, shown, named_fields, ReadsAs}
-use Rattle.document.specs.Declaring.{Faulty, shape}
+use Rattle.document.specs.Declaring.{FaultyByFirst, shape}
 use Rattle.document.specs.Texts.{fields}
 use Rattle.document.specs.declared.words.Kind.{Kind}
 use Rattle.document.specs.declared.words.Kind.TheVariants.{True, Prop, Not, And, Or, Next, Until}
@@ -71,8 +71,8 @@ at_form Until fs e f = ap (λ w. by_word (get_or w 3 0) fs) e ∙ ap (λ w. by_k
 
 -- a line of which only one reading is left, and that one fails, is misshapen
 module _ (d : Declarations) (bytes : List ℕ) (x : Line) (is : reading (fields bytes) ≡ x) where
-  pub wrong_count : (length (fields bytes) ≡ length (shown x) → ⊥) → Faulty d bytes 2 0
+  pub wrong_count : (length (fields bytes) ≡ length (shown x) → ⊥) → FaultyByFirst d bytes 2 0
   wrong_count ne = shape (λ y r. ne (ap length (r.0 ∙ ap shown (only bytes y r ∙ is))))
 
-  pub wrong_name : (AllByRecursion Named (named_fields x) → ⊥) → Faulty d bytes 2 0
+  pub wrong_name : (AllByRecursion Named (named_fields x) → ⊥) → FaultyByFirst d bytes 2 0
   wrong_name un = shape (λ y r. un (subst (λ z. AllByRecursion Named (named_fields z)) (only bytes y r ∙ is) r.1))

@@ -4,7 +4,7 @@ use Rattle.program.specs.Names.{Named, letter, naming}
 use Rattle.document.specs.declared.form.Form.TheVariants.{True}
 use Rattle.document.specs.Lines.{act_line, true_form}
 use Rattle.document.specs.Outcomes.{taken}
-use Rattle.document.specs.Coming.{Loads, read, declares, aims}
+use Rattle.document.specs.Coming.{LoadsByFirst, read, declares, aims}
 
 -- a text of three lines that is taken
 three_lines : List ℕ
@@ -13,7 +13,7 @@ three_lines = (codes "act" ++ 9 ∷ 97 ∷ 10 ∷ []) ++ (codes "form" ++ 9 ∷ 
 lone : (c : ℕ) → letter c ≡ true → naming c ≡ true → Named (c ∷ [])
 lone c l n = record { some = omega arith; short = omega arith; begins = l; rest = λ k h. let z : 0 ≡ k = omega arith in subst (λ v. naming (get_or (c ∷ []) v 0) ≡ true) z n }
 
-its_outcome : Loads three_lines (taken (record { acts = (97 ∷ []) ∷ []; props = []; prog_names = []; progs = []; form_names = (102 ∷ []) ∷ []; forms = True ∷ [] }) 0)
+its_outcome : LoadsByFirst three_lines (taken (record { acts = (97 ∷ []) ∷ []; props = []; prog_names = []; progs = []; form_names = (102 ∷ []) ∷ []; forms = True ∷ [] }) 0)
 unfolding three_lines
 its_outcome =
     read (omega arith)

@@ -5,9 +5,9 @@ use Rattle.document.specs.Documents.{WellFormed}
 use Rattle.document.specs.Faults.{line_fault_code, line_fault_column, load_fault_code, load_fault_line, load_fault_column}
 use Rattle.document.specs.Holds.{Holds}
 use Rattle.document.specs.Lines.{Declarations, document_of}
-use Rattle.document.specs.Declaring.{Faulty}
+use Rattle.document.specs.Declaring.{FaultyByFirst}
 use Rattle.document.specs.Outcomes.{taken, refused}
-use Rattle.document.specs.Coming.{Loads}
+use Rattle.document.specs.Coming.{LoadsByFirst}
 use Rattle.document.specs.Represents.{Represents}
 use Rattle.document.specs.Told.{Declares, Aims}
 use Rattle.document.specs.declared.document.Document.{Document}
@@ -25,17 +25,17 @@ abbrev pub LineRead : Progress → List ℕ → Bool → Result Progress LineFau
 LineRead progress bytes whole r =
     options.MatchOption progress.document
     ((whole ≡ false → r ≡ Err Shape)
-    × (whole ≡ true → (d : Declarations) → Holds progress.declared d → MatchResult r (Goes_on progress d bytes) (λ f. Faulty d bytes (line_fault_code f) (line_fault_column f))))
+    × (whole ≡ true → (d : Declarations) → Holds progress.declared d → MatchResult r (Goes_on progress d bytes) (λ f. FaultyByFirst d bytes (line_fault_code f) (line_fault_column f))))
     (λ _. r ≡ Err Order)
 
 -- the document in memory is the one that the text spells
 pub record Taken (text : List ℕ) (doc : Document) : Type 0 where
   pub declarations : Declarations
-  pub loads : Loads text (taken declarations doc.goal)
+  pub loads : LoadsByFirst text (taken declarations doc.goal)
   pub holds : Holds doc.declared declarations
   pub represents : Represents doc (document_of declarations doc.goal)
   pub well_formed : WellFormed (document_of declarations doc.goal)
 
 -- the text is taken, as the document that it spells, or refused with code, line and column of its first fault
 abbrev pub Loaded : List ℕ → Result Document LoadFault → Type 0
-Loaded text r = MatchResult r (Taken text) (λ f. Loads text (refused (load_fault_code f) (load_fault_line f) (load_fault_column f)))
+Loaded text r = MatchResult r (Taken text) (λ f. LoadsByFirst text (refused (load_fault_code f) (load_fault_line f) (load_fault_column f)))

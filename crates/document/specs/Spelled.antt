@@ -3,9 +3,9 @@ use Rattle.std.specs.Prelude.{◌≡◌, ℕ, ◌≤◌, ◌↔◌, List, [], �
 use Rattle.program.specs.Spellings.{NumberIn}
 use Rattle.document.specs.Documents.{Document, WellFormed}
 use Rattle.document.specs.Lines.{Declarations, nothing, document_of, Line, goal_line, ReadsAs}
-use Rattle.document.specs.Declaring.{WellNamed, Adds}
+use Rattle.document.specs.Declaring.{WellNamedByFirst, AddsByFirst}
 use Rattle.document.specs.Outcomes.{taken}
-use Rattle.document.specs.Coming.{Loads}
+use Rattle.document.specs.Coming.{LoadsByFirst}
 use Rattle.document.specs.Texts.{pieces}
 
 -- the pieces of a text, each followed by a line feed, read as these lines
@@ -18,7 +18,7 @@ ReadLines (b ∷ bs) (x ∷ xs) = ReadsAs b x × ReadLines bs xs
 -- after these declarations the lines declare more, up to those: each name is new in its kind, and what a line uses is declared before it
 abbrev pub Declare : Declarations → List Line → Declarations → Type 0
 Declare d [] e = d ≡ e
-Declare d (x ∷ xs) e = (m : Declarations) × WellNamed d x × Adds d x m × Declare m xs e
+Declare d (x ∷ xs) e = (m : Declarations) × WellNamedByFirst d x × AddsByFirst d x m × Declare m xs e
 
 -- the text is lines, each with its line feed: lines that declare something, and at last the goal; what they declare is the
 -- document, and it is within the limits
@@ -37,7 +37,7 @@ pub record SpellsDocument (text : List ℕ) (d : Document) : Type 0 where
 
 -- the law: a text is taken as a document exactly if it spells the document
 abbrev pub AcceptedExactly : Type 0
-AcceptedExactly = (text : List ℕ) (d : Document) → ((e : Declarations) × (goal : ℕ) × Loads text (taken e goal) × (d ≡ document_of e goal)) ↔ SpellsDocument text d
+AcceptedExactly = (text : List ℕ) (d : Document) → ((e : Declarations) × (goal : ℕ) × LoadsByFirst text (taken e goal) × (d ≡ document_of e goal)) ↔ SpellsDocument text d
 
 -- the law: a text spells one document at most
 abbrev pub OneDocument : Type 0

@@ -5,7 +5,7 @@ use Rattle.document.specs.Faults.{line_fault_code, line_fault_column}
 use Rattle.document.specs.Holds.{Holds}
 use Rattle.document.specs.Kinds.{form_with}
 use Rattle.document.specs.Lines.{Declarations, Line, goal_line, ReadsAs}
-use Rattle.document.specs.Declaring.{KnownName, NamesKnown, FormOf, Fine, Faulty, Adds}
+use Rattle.document.specs.Declaring.{KnownName, NamesKnown, FormOfByFirst, FineByFirst, FaultyByFirst, AddsByFirst}
 use Rattle.document.specs.Texts.{fields}
 use Rattle.document.specs.declared.declared.Declared.{Declared}
 use Rattle.document.specs.declared.document.Document.{Document}
@@ -27,27 +27,27 @@ pub record Declares (d : Declarations) (bytes : List ℕ) (next : Declared) : Ty
   pub line : Line
   pub after : Declarations
   pub reads : ReadsAs bytes line
-  pub fine : Fine d line
-  pub adds : Adds d line after
+  pub fine : FineByFirst d line
+  pub adds : AddsByFirst d line after
   pub holds : Holds next after
 
 -- the line declares something or is refused
 abbrev pub Told : Declared → List ℕ → Result Declared LineFault → Type 0
-Told held bytes r = (d : Declarations) → Holds held d → MatchResult r (Declares d bytes) (λ f. Faulty d bytes (line_fault_code f) (line_fault_column f))
+Told held bytes r = (d : Declarations) → Holds held d → MatchResult r (Declares d bytes) (λ f. FaultyByFirst d bytes (line_fault_code f) (line_fault_column f))
 
 -- the form of a form line, or a name that is not declared before
 abbrev pub FormTold : Declared → Kind → List ℕ → Result Form LineFault → Type 0
 FormTold held kind bytes r =
     (d : Declarations) → Holds held d
-    → MatchResult r (FormOf d (form_with kind (fields bytes))) (λ f. (f ≡ Naming) × (NamesKnown d (form_with kind (fields bytes)) → ⊥))
+    → MatchResult r (FormOfByFirst d (form_with kind (fields bytes))) (λ f. (f ≡ Naming) × (NamesKnown d (form_with kind (fields bytes)) → ⊥))
 
 -- the line is the goal's, and this is the document
 pub record Aims (held : Declared) (d : Declarations) (bytes : List ℕ) (doc : Document) : Type 0 where
   pub name : List ℕ
   pub reads : ReadsAs bytes (goal_line name)
-  pub fine : Fine d (goal_line name)
+  pub fine : FineByFirst d (goal_line name)
   pub number : NumberIn d.form_names name doc.goal
   pub declared : doc.declared ≡ held
 
 abbrev pub GoalTold : Declared → List ℕ → Result Document LineFault → Type 0
-GoalTold held bytes r = (d : Declarations) → Holds held d → MatchResult r (Aims held d bytes) (λ f. Faulty d bytes (line_fault_code f) (line_fault_column f))
+GoalTold held bytes r = (d : Declarations) → Holds held d → MatchResult r (Aims held d bytes) (λ f. FaultyByFirst d bytes (line_fault_code f) (line_fault_column f))

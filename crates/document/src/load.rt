@@ -3,8 +3,8 @@ ghost use Rattle.std.specs.Prelude.{◌≡◌, ◌+◌, ◌<◌, ◌≤◌, true
 ghost use Rattle.document.specs.Holds.{Holds};
 ghost use Rattle.document.specs.Lines.{nothing};
 ghost use Rattle.document.specs.Loading.{LineRead, Loaded};
-ghost use Rattle.document.specs.Coming.{HasOneOutcome};
-ghost use Rattle.document.specs.Outcomes.{HasOneOutcome as HasOneOutcomeByPlace};
+ghost use Rattle.document.specs.Coming.{HasOneOutcomeByFirst};
+ghost use Rattle.document.specs.Outcomes.{HasOneOutcome};
 ghost use Rattle.document.specs.LoadsAlike.{LoadsAlike};
 ghost use Rattle.document.specs.Spelled.{AcceptedExactly, OneDocument};
 ghost use Rattle.document.specs.Faults.{load_fault_line};
@@ -78,9 +78,9 @@ fn numbered(progress: Progress, line: &[u8], whole: bool, number: usize) -> Resu
 pub fn load(text: &[u8]) -> Result<Document, LoadFault>
     ensures long { 16384 < length text.now → result ≡ Err TooLong }
     ensures short { length text.now ≤ 16384 → result ≢ Err TooLong }
-    ensures one { HasOneOutcome }
+    ensures one { HasOneOutcomeByFirst }
     ensures alike { LoadsAlike }
-    ensures one_by_place { HasOneOutcomeByPlace }
+    ensures one_by_place { HasOneOutcome }
     ensures exactly { AcceptedExactly }
     ensures single { OneDocument }
     ensures loaded { Loaded text.now result }

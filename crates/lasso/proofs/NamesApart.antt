@@ -7,9 +7,9 @@ use Rattle.std.proofs.lemmas.Bool.{cases_lt}
 use Rattle.program.specs.Names.{Named}
 use Rattle.program.specs.Spellings.{Missing}
 use Rattle.document.specs.Lines.{Declarations, Line, act_line, prop_line, goal_line, prog_line, true_form, prop_form, not_form, and_form, or_form, next_form, until_form, named_fields}
-use Rattle.document.specs.Declaring.{NewName, Adds}
+use Rattle.document.specs.Declaring.{NewName, AddsByFirst}
 use Rattle.document.specs.Outcomes.{taken}
-use Rattle.document.specs.Coming.{Comes, declares, aims, Loads, read}
+use Rattle.document.specs.Coming.{ComesByFirst, declares, aims, LoadsByFirst, read}
 use Rattle.lasso.specs.LassoLines.{Apart}
 use Rattle.lasso.specs.ScanLaws.{LoadedApart}
 
@@ -27,7 +27,7 @@ apart_push names n a h miss = record { named = All-push Named names n a.named h;
 abbrev Both : Declarations → Type 0
 Both d = Apart d.acts × Apart d.props
 
-line_apart : (d e : Declarations) (x : Line) → AllByRecursion Named (named_fields x) → NewName d x → Adds d x e → Both d → Both e
+line_apart : (d e : Declarations) (x : Line) → AllByRecursion Named (named_fields x) → NewName d x → AddsByFirst d x e → Both d → Both e
 line_apart d e (act_line n) h new is x = subst Both (sym is) (apart_push d.acts n x.0 h.0 new, x.1)
 line_apart d e (prop_line n) h new is x = subst Both (sym is) (x.0, apart_push d.props n x.1 h.0 new)
 line_apart d e (goal_line f) h new is x = absurd is
@@ -40,11 +40,11 @@ line_apart d e (or_form n f g) h new is x = subst Both (sym is.2) x
 line_apart d e (next_form n a f) h new is x = subst Both (sym is.2) x
 line_apart d e (until_form n f p g) h new is x = subst Both (sym is.2) x
 
-lines_apart : {d e : Declarations} {n goal : ℕ} {ls : List (List ℕ)} → Comes d n ls (taken e goal) → Both d → Both e
+lines_apart : {d e : Declarations} {n goal : ℕ} {ls : List (List ℕ)} → ComesByFirst d n ls (taken e goal) → Both d → Both e
 lines_apart (declares {d} {e} x r f is c) b = lines_apart c (line_apart d e x r.1 f.well_named.0 is b)
 lines_apart (aims f r g num) b = b
 
-text_apart : {text : List ℕ} {e : Declarations} {goal : ℕ} → Loads text (taken e goal) → Both e
+text_apart : {text : List ℕ} {e : Declarations} {goal : ℕ} → LoadsByFirst text (taken e goal) → Both e
 text_apart (read h c) = lines_apart c (none, none)
   where
     none : Apart []

@@ -19,7 +19,7 @@ ListsSet d S start = (c : ℕ) → (has start c ≡ true) ↔ ((k : Claim) × S 
 
 -- a closure of numbers is one of claims
 closure_claims : (d : Document) → WellFormed d → (x : ℕ) (start : List ℕ) (S : Claim → Type 0) → ((k : Claim) → S k → ClaimOf d k) → ListsSet d S start → (f : ℕ → Bool) (c : ℕ)
-    → walk.Closure (calculus d x) start f c → (k : Claim) → ClaimOf d k → number_of d k ≡ c → Closure d x (λ j. f (number_of d j)) S k
+    → walk.NumberClosure (calculus d x) start f c → (k : Claim) → ClaimOf d k → number_of d k ≡ c → Closure d x (λ j. f (number_of d j)) S k
 closure_claims d good x start S own lists f c (from_start h) k mine is =
     let s = (lists c).0 h in
     given (subst S (one_number d s.0 k (own s.0 s.1) mine (s.2 ∙ sym is)) s.1)
@@ -31,7 +31,7 @@ closure_claims d good x start S own lists f c (from_claim {c = b} h g) k mine is
 
 -- a closure of claims is one of numbers
 closure_numbers : (d : Document) → WellFormed d → (x : ℕ) (start : List ℕ) (S : Claim → Type 0) → ((k : Claim) → S k → ClaimOf d k) → ListsSet d S start → (choice : Claim → Bool) (f : ℕ → Bool)
-    → ((k : Claim) → ClaimOf d k → f (number_of d k) ≡ choice k) → (k : Claim) → Closure d x choice S k → walk.Closure (calculus d x) start f (number_of d k)
+    → ((k : Claim) → ClaimOf d k → f (number_of d k) ≡ choice k) → (k : Claim) → Closure d x choice S k → walk.NumberClosure (calculus d x) start f (number_of d k)
 closure_numbers d good x start S own lists choice f same k (given h) = from_start ((lists (number_of d k)).1 (k, h, refl))
 closure_numbers d good x start S own lists choice f same k (made {c = c} h g) =
     let mine = closure_own d good x choice S own c h in
@@ -82,7 +82,7 @@ against_clash d a M none (step_false e q) k i j w = w
 
 -- an expansion of numbers, with an action that it allows, is one of claims
 pub expansion_claims : (d : Document) → WellFormed d → (x a : ℕ) (start : List ℕ) (S : Claim → Type 0) → ((k : Claim) → S k → ClaimOf d k) → ListsSet d S start → (N : ℕ → Bool)
-    → walk.Expansion (calculus d x) start N → Allowed d N a → Expansion d a x S (claims_of d N)
+    → walk.NumberExpansion (calculus d x) start N → Allowed d N a → Expansion d a x S (claims_of d N)
 expansion_claims d good x a start S own lists N e allowed =
     let f = e.choice in
     let choice : Claim → Bool = λ k. f (number_of d k) in
@@ -95,20 +95,20 @@ expansion_claims d good x a start S own lists N e allowed =
 
 -- the numbers of a closure are those of claims
 pub closure_numbered : (d : Document) → WellFormed d → (x : ℕ) (start : List ℕ) (S : Claim → Type 0) → ((k : Claim) → S k → ClaimOf d k) → ListsSet d S start → (f : ℕ → Bool) (c : ℕ)
-    → walk.Closure (calculus d x) start f c → (k : Claim) × ClaimOf d k × (number_of d k ≡ c)
+    → walk.NumberClosure (calculus d x) start f c → (k : Claim) × ClaimOf d k × (number_of d k ≡ c)
 closure_numbered d good x start S own lists f c (from_start h) = let s = (lists c).0 h in (s.0, own s.0 s.1, s.2)
 closure_numbered d good x start S own lists f c (from_claim {c = b} h g) = (g.1, gives_own d good x (f b) g.0 g.1 g.2 g.5, g.4)
 
 -- an expansion of claims is one of numbers, and allows the action
 pub expansion_numbers : (d : Document) → WellFormed d → (x a : ℕ) (start : List ℕ) (S : Claim → Type 0) → ((k : Claim) → S k → ClaimOf d k) → ListsSet d S start → (M : Claim → Bool)
-    → Expansion d a x S M → walk.Expansion (calculus d x) start (numbers_of d M) × Allowed d (numbers_of d M) a
+    → Expansion d a x S M → walk.NumberExpansion (calculus d x) start (numbers_of d M) × Allowed d (numbers_of d M) a
 expansion_numbers d good x a start S own lists M e =
     let choice = e.choice in
     let f : ℕ → Bool = λ c. choice (claim_numbered d c) in
     let same : (k : Claim) → ClaimOf d k → f (number_of d k) ≡ choice k = λ k c. ap choice (claim_numbered_is d k c) in (
       record {
         choice = f;
-        within = λ c h. let t = numbers_told d M c h in subst (walk.Closure (calculus d x) start f) t.2 (closure_numbers d good x start S own lists choice f same t.0 (e.least t.0 t.3));
+        within = λ c h. let t = numbers_told d M c h in subst (walk.NumberClosure (calculus d x) start f) t.2 (closure_numbers d good x start S own lists choice f same t.0 (e.least t.0 t.3));
         whole = λ c h. let t = closure_numbered d good x start S own lists f c h in subst (λ v. numbers_of d M v ≡ true) t.2 (numbers_tell d M t.0 t.1 (e.holds t.0 (like t.0 (closure_claims d good x start S own lists f c h t.0 t.1 t.2))));
         fine = λ b c h i w. let p = numbers_told d M b h in let q = numbers_told d M c i in
             let kb = one_number d p.0 w.0 p.1 w.2 (p.2 ∙ sym w.4) in

@@ -4,16 +4,16 @@ use Rattle.std.proofs.lemmas.Bool.{cases_Bool, eq-eqb, ne_eqb, both_ways, cases_
 use Rattle.tableau.specs.Claims.{has, Same}
 use Rattle.tableau.specs.Calculus.{Calculus, ListsGiven, Fine}
 use Rattle.tableau.specs.Walk.{grown, Fresh}
-use Rattle.tableau.specs.Expansions.{Closure, from_start, from_claim, Expansion, Reaches, ends, turns, Reached, Done, Leads, Stuck}
+use Rattle.tableau.specs.Expansions.{NumberClosure, from_start, from_claim, NumberExpansion, Reaches, ends, turns, Reached, Done, Leads, Stuck}
 use Rattle.tableau.proofs.Lists.{has_at, at_has, grown_old, grown_new, grown_cases, get_d_grown, fresh_none, fresh_grown, earlier}
 
 -- a closure whose start lies in another lies in that
-pub closure_in : {m : Calculus} {s t : List ℕ} {f : ℕ → Bool} {x : ℕ} → ((y : ℕ) → has s y ≡ true → Closure m t f y) → Closure m s f x → Closure m t f x
+pub closure_in : {m : Calculus} {s t : List ℕ} {f : ℕ → Bool} {x : ℕ} → ((y : ℕ) → has s y ≡ true → NumberClosure m t f y) → NumberClosure m s f x → NumberClosure m t f x
 closure_in h (from_start e) = h _ e
 closure_in h (from_claim p e) = from_claim (closure_in h p) e
 
 -- a set that has the start, and what its claims give, has the closure
-pub closure_least : {m : Calculus} {s : List ℕ} {f : ℕ → Bool} {x : ℕ} (N : ℕ → Bool) → ((y : ℕ) → has s y ≡ true → N y ≡ true) → ((y z : ℕ) → N y ≡ true → m.gives y (f y) z → N z ≡ true) → Closure m s f x → N x ≡ true
+pub closure_least : {m : Calculus} {s : List ℕ} {f : ℕ → Bool} {x : ℕ} (N : ℕ → Bool) → ((y : ℕ) → has s y ≡ true → N y ≡ true) → ((y z : ℕ) → N y ≡ true → m.gives y (f y) z → N z ≡ true) → NumberClosure m s f x → N x ≡ true
 closure_least N h k (from_start e) = h _ e
 closure_least N h k (from_claim p e) = k _ _ (closure_least N h k p) e
 
@@ -26,7 +26,7 @@ record Followed (m : Calculus) (d : ℕ → Bool) (i : ℕ) (t u : List ℕ) : T
   agrees : (j : ℕ) → j < i → choice (get_or t j 0) ≡ d (get_or t j 0)
   done : Done m choice (length u) u
   grows : (x : ℕ) → has t x ≡ true → has u x ≡ true
-  within : (x : ℕ) → has u x ≡ true → Closure m t choice x
+  within : (x : ℕ) → has u x ≡ true → NumberClosure m t choice x
 
 abbrev put : (ℕ → Bool) → ℕ → Bool → ℕ → Bool
 put d c b x = cond (eqb x c) b (d x)
@@ -51,7 +51,7 @@ done_more m f b xs i t given lt is old j h x e =
     ]
 
 -- what one turn adds is in the closure
-turn_in : (m : Calculus) (f : ℕ → Bool) (b : Bool) (xs : List ℕ) (i : ℕ) (t : List ℕ) → ListsGiven m (get_or t i 0) b xs → i < length t → f (get_or t i 0) ≡ b → (y : ℕ) → has (grown t xs) y ≡ true → Closure m t f y
+turn_in : (m : Calculus) (f : ℕ → Bool) (b : Bool) (xs : List ℕ) (i : ℕ) (t : List ℕ) → ListsGiven m (get_or t i 0) b xs → i < length t → f (get_or t i 0) ≡ b → (y : ℕ) → has (grown t xs) y ≡ true → NumberClosure m t f y
 turn_in m f b xs i t given lt is y h = elim (grown_cases t xs y h) [
   | inl e ↦ from_start e
   | inr e ↦ from_claim (from_start (has_at t i lt)) (subst (λ v. m.gives (get_or t i 0) v y) (sym is) ((given y).0 e))
@@ -80,7 +80,7 @@ followed m {i} {t} {u} (turns b xs given lt r) d done fresh =
     (followed m r (put d (get_or t i 0) b) (done_more m (put d (get_or t i 0) b) b xs i t given lt (put_same d (get_or t i 0) b (get_or t i 0) refl) (done_put m d b i t lt fresh done)) (fresh_grown t xs fresh))
 
 -- soundness: what is reached from the start is an expansion
-pub reached_expands : (m : Calculus) (start : List ℕ) (N : ℕ → Bool) → Reached m 0 (grown [] start) N → Expansion m start N
+pub reached_expands : (m : Calculus) (start : List ℕ) (N : ℕ → Bool) → Reached m 0 (grown [] start) N → NumberExpansion m start N
 reached_expands m start N r =
     let u = r.0 in
     let f = followed m r.1 (λ _. true) (λ j l. absurd (omega arith)) (fresh_grown [] start fresh_none) in
@@ -94,7 +94,7 @@ reached_expands m start N r =
     }
 
 -- an expansion is one of each list of the same claims
-pub expands_like : (m : Calculus) (s t : List ℕ) (N : ℕ → Bool) → ((c : ℕ) → has s c ≡ true → has t c ≡ true) → ((c : ℕ) → has t c ≡ true → has s c ≡ true) → Expansion m s N → Expansion m t N
+pub expands_like : (m : Calculus) (s t : List ℕ) (N : ℕ → Bool) → ((c : ℕ) → has s c ≡ true → has t c ≡ true) → ((c : ℕ) → has t c ≡ true → has s c ≡ true) → NumberExpansion m s N → NumberExpansion m t N
 expands_like m s t N to from e = record {
   choice = e.choice;
   within = λ c h. closure_in (λ y p. from_start (to y p)) (e.within c h);
@@ -103,11 +103,11 @@ expands_like m s t N to from e = record {
 }
 
 -- at the first claim of the trail any expansion is led to
-pub leads_like : (m : Calculus) (s t : List ℕ) (N : ℕ → Bool) → ((c : ℕ) → has s c ≡ true → has t c ≡ true) → ((c : ℕ) → has t c ≡ true → has s c ≡ true) → Expansion m s N → Leads m 0 t N
+pub leads_like : (m : Calculus) (s t : List ℕ) (N : ℕ → Bool) → ((c : ℕ) → has s c ≡ true → has t c ≡ true) → ((c : ℕ) → has t c ≡ true → has s c ≡ true) → NumberExpansion m s N → Leads m 0 t N
 leads_like m s t N to from e = (expands_like m s t N to from e, λ j l. absurd (omega arith))
 
 -- completeness: each expansion of the start is led to from there
-pub expands_leads : (m : Calculus) (start : List ℕ) (N : ℕ → Bool) → Expansion m start N → Leads m 0 (grown [] start) N
+pub expands_leads : (m : Calculus) (start : List ℕ) (N : ℕ → Bool) → NumberExpansion m start N → Leads m 0 (grown [] start) N
 expands_leads m start N e =
     leads_like m start (grown [] start) N (λ y p. grown_new [] start y p)
     (λ y h. elim (grown_cases [] start y h) [ inl q ↦ absurd (both_ways false refl q) | inr q ↦ q ]) e

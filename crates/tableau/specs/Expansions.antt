@@ -9,14 +9,14 @@ use Rattle.tableau.specs.Walk.{grown}
 use Rattle.tableau.specs.declared.claims.ClaimSet.{ClaimSet}
 
 -- the least set that has the claims of the start and, with each claim, what that gives by the alternative chosen for it
-pub data Closure (m : Calculus) (start : List ℕ) (choice : ℕ → Bool) : ℕ → Type 0 where
-  from_start : {c : ℕ} → has start c ≡ true → Closure m start choice c
-  from_claim : {c y : ℕ} → Closure m start choice c → m.gives c (choice c) y → Closure m start choice y
+pub data NumberClosure (m : Calculus) (start : List ℕ) (choice : ℕ → Bool) : ℕ → Type 0 where
+  from_start : {c : ℕ} → has start c ≡ true → NumberClosure m start choice c
+  from_claim : {c y : ℕ} → NumberClosure m start choice c → m.gives c (choice c) y → NumberClosure m start choice y
 
-pub record Expansion (m : Calculus) (start : List ℕ) (N : ℕ → Bool) : Type 0 where
+pub record NumberExpansion (m : Calculus) (start : List ℕ) (N : ℕ → Bool) : Type 0 where
   pub choice : ℕ → Bool
-  pub within : (c : ℕ) → N c ≡ true → Closure m start choice c
-  pub whole : (c : ℕ) → Closure m start choice c → N c ≡ true
+  pub within : (c : ℕ) → N c ≡ true → NumberClosure m start choice c
+  pub whole : (c : ℕ) → NumberClosure m start choice c → N c ≡ true
   pub fine : Fine m N
 
 -- from the cursor i and the trail t the walk comes to an end with the trail u
@@ -34,7 +34,7 @@ Done m choice i t = (j : ℕ) → j < i → (y : ℕ) → m.gives (slice_index t
 
 -- N is an expansion of t by a choice that fits the first i claims
 abbrev pub Leads : Calculus → ℕ → List ℕ → (ℕ → Bool) → Type 0
-Leads m i t N = (e : Expansion m t N) × Done m e.choice i t
+Leads m i t N = (e : NumberExpansion m t N) × Done m e.choice i t
 
 -- no set without a clash has all claims of t
 abbrev pub Stuck : Calculus → List ℕ → Type 0

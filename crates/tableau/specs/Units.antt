@@ -5,7 +5,7 @@ use Rattle.document.specs.declared.declared.Declared.{Declared}
 use Rattle.tableau.specs.Calculus.{calculus, Fine}
 use Rattle.tableau.specs.Claims.{has}
 use Rattle.tableau.specs.Entered.{Ready, Entered, Over, Enters}
-use Rattle.tableau.specs.Expansions.{Expansion, Reached, Leads}
+use Rattle.tableau.specs.Expansions.{NumberExpansion, Reached, Leads}
 use Rattle.tableau.specs.Graphs.{Sign.T, until_true, says}
 use Rattle.tableau.specs.Nodes.{node_at}
 use Rattle.tableau.specs.Numbers.{number_of, ClaimOf, Shows}
@@ -67,11 +67,11 @@ EntersSuccessors held x o n nodes edges u nodes' edges' r =
 
 -- the sets of the first nodes: the expansions of the claim that the goal is true
 abbrev pub FirstSet : Document → (ℕ → Bool) → Type 0
-FirstSet d N = Expansion (calculus d 0) (number_of d (says d 0 T d.goal) ∷ []) N
+FirstSet d N = NumberExpansion (calculus d 0) (number_of d (says d 0 T d.goal) ∷ []) N
 
 -- the sets of the successors of a node, in phase x: the expansions of what it hands on with a target for each claim T step
 abbrev pub NextSet : Document → ℕ → Node → (ℕ → Bool) → Type 0
-NextSet d x n N = (handed : List ℕ) × (targets : List ℕ) × ListsHanded d n x handed × Chosen d n 0 targets × Expansion (calculus d x) (handed ++ targets) N
+NextSet d x n N = (handed : List ℕ) × (targets : List ℕ) × ListsHanded d n x handed × Chosen d n 0 targets × NumberExpansion (calculus d x) (handed ++ targets) N
 
 -- the phase of a node's successors
 abbrev pub next_phase : Node → ℕ

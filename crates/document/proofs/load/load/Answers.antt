@@ -59,7 +59,7 @@ returns-in_err-progress c =
       one_by_place = one_outcome_by_place;
       exactly = accepted_exactly;
       single = one_document;
-      loaded = subst (Loaded text) (sym is) (read c.if-text-gt16384.false (subst (λ n. outcome.Comes nothing 1 (pieces 10 text) (failed.refused (line_fault_code f.fault) n (line_fault_column f.fault))) (sym number) comes));
+      loaded = subst (Loaded text) (sym is) (read c.if-text-gt16384.false (subst (λ n. outcome.ComesByFirst nothing 1 (pieces 10 text) (failed.refused (line_fault_code f.fault) n (line_fault_column f.fault))) (sym number) comes));
       line = subst (λ r. IfErr r (λ g. load_fault_line g ≤ length text + 1)) (sym is) (omega (arith, c.loop-at.invariant));
     }
 
