@@ -1,11 +1,13 @@
 #!/usr/bin/env python3
-"""Brings the repository's own definitions and lemmas to the spelling of today's Rattle, once:
+"""Brought the repository's own definitions and lemmas to the spelling of today's Rattle, once:
 types and facts in upper camel case, all else in snake case. Names of src/ and generated names stay.
+It is kept so that the renaming can be done again on the commit that it began from, and refuses any other tree.
 
-usage: python3 tools/port_names.py [--report]      at the top of the repository, after port.py
+usage: python3 tools/port_names.py [--report]      at the top of that repository, after port.py
 """
 import collections
 import glob
+import os
 import re
 import sys
 
@@ -56,6 +58,9 @@ def spelled(name, kinds):
 
 
 def main():
+    if os.path.exists("docs/PORT.md"):
+        print("this tree has the new names already (docs/PORT.md)")
+        raise SystemExit(2)
     found = words()
     turn = {}
     for name, kinds in found.items():
