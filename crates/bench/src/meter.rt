@@ -1,4 +1,6 @@
 // Writes a line for each piece of work: what came out, or how long it took.
+ghost use Rattle.std.specs.Prelude.{◌≡◌, if◌then◌else◌};
+
 use std::alloc::Global;
 use std::io;
 use std::time::Instant;
@@ -31,7 +33,9 @@ fn show_ratio(rt: &HostRuntime, micros: u64, before: u64) -> io::Result<()> {
 }
 
 impl<'a> Meter<'a> {
-    pub fn new(rt: &'a HostRuntime, timed: bool) -> Meter<'a> {
+    pub fn new(rt: &'a HostRuntime, timed: bool) -> Meter<'a>
+        ensures { result.timed ≡ timed }
+    {
         Meter {
             rt,
             timed,
@@ -40,7 +44,9 @@ impl<'a> Meter<'a> {
         }
     }
 
-    pub fn is_timed(&self) -> bool {
+    pub fn is_timed(&self) -> bool
+        ensures { result ≡ self.now.timed }
+    {
         self.timed
     }
 
@@ -49,7 +55,9 @@ impl<'a> Meter<'a> {
     }
 
     // Rounds of each piece of work: the fastest counts.
-    pub fn rounds(&self) -> u8 {
+    pub fn rounds(&self) -> u8
+        ensures { result ≡ (if self.now.timed then 5 else 1) }
+    {
         if self.timed { 5 } else { 1 }
     }
 
