@@ -2,7 +2,7 @@
 # Lists the places of older forms in src/, a line each, by point of docs/DESIGN-PASS.md. Run at the top; give a point's number to list one alone.
 # Tests are left out. Two points are counted by other commands: twins by `duplicates --most 60` and by reading, answers by `wc`.
 only=$1
-files=$(find crates -path '*/src/*' -name '*.rt' ! -name 'tests.rt' | sort)
+files=$(find crates -path '*/src/*' ! -path '*/out/*' -name '*.rt' ! -name 'tests.rt' | sort)
 point() {
     [ -z "$only" ] || [ "$only" = "$1" ] || return 0
     list=$(grep -nE "$3" $files)

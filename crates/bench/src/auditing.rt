@@ -1,48 +1,39 @@
 // Auditing a loop of many steps against a computed system.
+ghost use Rattle.std.specs.Prelude.{◌≡◌, ◌+◌, ◌<◌, IfOk, vec_len};
+
 use crate::meter::Meter;
+use crate::studies::study_of;
 use crate::wheel::Wheel;
+use crate::words::yes_or_no;
 use lasso::step::Step;
-use std::alloc::Global;
-use study::study::Study;
+use std::alloc::{AllocError, Global};
 
 // A document that every session meets.
 const ANY_SESSION: &[u8] = b"act\ta\nform\tt\ttrue\ngoal\tt\n";
 
 // Once round the wheel, from group to group; `extra` steps stay in the first group, which is no move of a larger wheel.
-fn round(heap: Global, groups: u16, extra: u16) -> anyhow::Result<Vec<Step>> {
-    let mut steps = Vec::new(heap);
-    for i in 0..groups.saturating_add(extra) {
-        let group = i.saturating_sub(extra);
-        steps.push(Step {
-            state: group.saturating_mul(4),
+fn round(heap: Global, groups: u16, extra: u16) -> Result<Vec<Step>, AllocError>
+    ensures { groups + extra < 65536 → IfOk result (λ steps. vec_len steps ≡ groups + extra) }
+{
+    (0..groups.saturating_add(extra))
+        .map(|i| Step {
+            state: i.saturating_sub(extra).saturating_mul(4),
             action: 0,
             marks: 0,
-        })?;
-    }
-    Ok(steps)
+        })
+        .collect(heap)
 }
 
 // Audits such a loop, and says what came out.
 fn audit(meter: &mut Meter, groups: u16, extra: u16) -> anyhow::Result<()> {
     let steps = round(meter.heap(), groups, extra)?;
     let mut work = vec![in meter.heap(); 0u64; steps.len().saturating_mul(4)]?;
-    let mut study = Study::new(&mut [], &mut []);
-    let _ = study.load(ANY_SESSION);
+    let study = study_of(&mut [], &mut [], ANY_SESSION);
     let wheel = Wheel {
         groups: usize::from(groups),
     };
-    let mut answer = "refused";
-    for _ in 0..meter.rounds() {
-        let start = meter.start()?;
-        let audited = study.audit(wheel, &steps, 0, &mut work);
-        meter.stop(start)?;
-        answer = match audited {
-            Ok(true) => "yes",
-            Ok(false) => "no",
-            Err(_) => "refused",
-        };
-    }
-    meter.line(steps.len(), answer)?;
+    let audited = meter.piece(|| study.audit(wheel, &steps, 0, &mut work))?;
+    meter.line(steps.len(), audited.map_or("refused", yes_or_no))?;
     Ok(())
 }
 

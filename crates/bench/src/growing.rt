@@ -1,21 +1,8 @@
 // Growing the graph of a goal.
 use crate::meter::Meter;
 use crate::texts::{promises, wide};
-use study::refusal::Refusal;
 use study::study::Study;
-use tableau::grow::{Growth, Report};
 use tableau::node::{Edge, Node};
-
-fn word(grown: Result<Growth, Refusal>) -> &'static str {
-    match grown {
-        Err(_) => "refused",
-        Ok(growth) => match growth.report {
-            Report::Complete => "complete",
-            Report::Full => "full",
-            Report::More => "more",
-        },
-    }
-}
 
 // Grows to the end, and writes how many nodes there are.
 fn grow(meter: &mut Meter, text: &[u8]) -> anyhow::Result<()> {
@@ -23,16 +10,18 @@ fn grow(meter: &mut Meter, text: &[u8]) -> anyhow::Result<()> {
     let mut nodes = vec![in heap; Node::blank(); 4096]?;
     let mut edges = vec![in heap; Edge::blank(); 65536]?;
     let mut study = Study::new(&mut nodes, &mut edges);
-    let mut answer = "refused";
+    let mut report = None;
     for _ in 0..meter.rounds() {
+        // Refused, it is blank, which the call of grow then refuses.
         let _ = study.load(text);
-        let start = meter.start()?;
-        let grown = study.grow(u64::MAX);
-        meter.stop(start)?;
-        answer = word(grown);
+        let grown = meter.round(&mut || study.grow(u64::MAX))?;
+        report = grown.ok().map(|growth| growth.report);
     }
     let count = study.used().nodes;
-    meter.line(count, answer)?;
+    match report {
+        Some(report) => meter.line(count, report)?,
+        None => meter.line(count, "refused")?,
+    }
     Ok(())
 }
 

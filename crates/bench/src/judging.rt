@@ -1,43 +1,34 @@
 // Judging a loop of many steps by a document of 64 forms.
+ghost use Rattle.std.specs.Prelude.{◌≡◌, IfOk, vec_len};
+
 use crate::meter::Meter;
+use crate::studies::study_of;
 use crate::texts::full;
+use crate::words::yes_or_no;
 use lasso::step::Step;
-use std::alloc::Global;
-use study::study::Study;
+use std::alloc::{AllocError, Global};
 
 // A loop of `count` steps: by action b, but once, in its middle, by c. After that the proposition holds.
-fn once_round(heap: Global, count: usize) -> anyhow::Result<Vec<Step>> {
-    let mut steps = Vec::new(heap);
-    for i in 0..count {
-        let middle = i == count / 2;
-        let after = i == count / 2 + 1;
-        steps.push(Step {
+fn once_round(heap: Global, count: usize) -> Result<Vec<Step>, AllocError>
+    ensures { IfOk result (λ steps. vec_len steps ≡ count) }
+{
+    let middle = count / 2;
+    (0..count)
+        .map(|i| Step {
             state: 0,
-            action: if middle { 1 } else { 0 },
-            marks: if after { 1 } else { 0 },
-        })?;
-    }
-    Ok(steps)
+            action: u8::from(i == middle),
+            marks: u16::from(i == middle + 1),
+        })
+        .collect(heap)
 }
 
 // Judges such a loop, and says what came out.
 fn judge(meter: &mut Meter, text: &[u8], count: usize) -> anyhow::Result<()> {
     let steps = once_round(meter.heap(), count)?;
     let mut work = vec![in meter.heap(); 0u64; count.saturating_mul(4)]?;
-    let mut study = Study::new(&mut [], &mut []);
-    let _ = study.load(text);
-    let mut answer = "refused";
-    for _ in 0..meter.rounds() {
-        let start = meter.start()?;
-        let judged = study.judge(&steps, 0, &mut work);
-        meter.stop(start)?;
-        answer = match judged {
-            Ok(true) => "yes",
-            Ok(false) => "no",
-            Err(_) => "refused",
-        };
-    }
-    meter.line(count, answer)?;
+    let study = study_of(&mut [], &mut [], text);
+    let judged = meter.piece(|| study.judge(&steps, 0, &mut work))?;
+    meter.line(count, judged.map_or("refused", yes_or_no))?;
     Ok(())
 }
 

@@ -1,24 +1,22 @@
 // Loading texts.
 use crate::meter::Meter;
 use crate::texts::filled;
+use document::fault::LoadFault;
 use study::study::Study;
 
 // Loads a text so many times.
+fn load_again(study: &mut Study, text: &[u8], times: u16) -> Result<(), LoadFault> {
+    for _ in 0..times {
+        study.load(text)?;
+    }
+    Ok(())
+}
+
 fn load(meter: &mut Meter, size: usize, times: u16) -> anyhow::Result<()> {
     let text = filled(meter.heap(), size)?;
     let mut study = Study::new(&mut [], &mut []);
-    let mut answer = "refused";
-    for _ in 0..meter.rounds() {
-        let start = meter.start()?;
-        for _ in 0..times {
-            answer = match study.load(text.as_bytes()) {
-                Ok(()) => "loaded",
-                Err(_) => "refused",
-            };
-        }
-        meter.stop(start)?;
-    }
-    meter.line(text.len(), answer)?;
+    let loaded = meter.piece(|| load_again(&mut study, text.as_bytes(), times))?;
+    meter.line(text.len(), loaded.map_or("refused", |()| "loaded"))?;
     Ok(())
 }
 

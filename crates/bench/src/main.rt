@@ -8,8 +8,10 @@ mod judging;
 mod loading;
 mod meter;
 mod searching;
+mod studies;
 mod texts;
 mod wheel;
+mod words;
 
 use crate::meter::Meter;
 use std::env;
@@ -26,12 +28,8 @@ fn run(rt: &HostRuntime, timed: bool) -> anyhow::Result<()> {
 
 // Whether the first argument is `times`.
 fn wants_times(rt: &HostRuntime) -> anyhow::Result<bool> {
-    for (i, word) in env::args(rt)?.enumerate() {
-        if i == 1 {
-            return Ok(word.as_str() == "times");
-        }
-    }
-    Ok(false)
+    let first = env::args(rt)?.nth(1);
+    Ok(first.is_some_and(|word| word.as_str() == "times"))
 }
 
 fn main(rt: HostRuntime) -> anyhow::Result<()> {

@@ -1,17 +1,17 @@
 // Writes a line for each piece of work: what came out, or how long it took.
-ghost use Rattle.std.specs.Prelude.{◌≡◌, if◌then◌else◌};
+ghost use Rattle.std.specs.Prelude.{◌≡◌, if◌then◌else◌, IfOk};
 
 use std::alloc::Global;
-use std::io;
 use std::time::Instant;
+use std::{fmt, io};
 
 #[derive(Drop)]
 pub struct Meter<'a> {
     rt: &'a HostRuntime,
     timed: bool,
     // Microseconds of the fastest round so far, and of the line before.
-    best: u64,
-    before: u64,
+    best: Option<u64>,
+    before: Option<u64>,
 }
 
 // Microseconds in milliseconds.
@@ -21,12 +21,11 @@ fn show_time(rt: &HostRuntime, micros: u64) -> io::Result<()> {
     print!(rt; "{whole}.{rest:03} ms")
 }
 
-// How many times the work before it took.
+// How many times the work before it took, where that took any time.
 fn show_ratio(rt: &HostRuntime, micros: u64, before: u64) -> io::Result<()> {
-    if before == 0 {
+    let Some(hundredths) = micros.saturating_mul(100).checked_div(before) else {
         return Ok(());
-    }
-    let hundredths = micros.saturating_mul(100) / before;
+    };
     let whole = hundredths / 100;
     let rest = hundredths % 100;
     print!(rt; "\t{whole}.{rest:02} times")
@@ -39,8 +38,8 @@ impl<'a> Meter<'a> {
         Meter {
             rt,
             timed,
-            best: u64::MAX,
-            before: 0,
+            best: None,
+            before: None,
         }
     }
 
@@ -63,30 +62,46 @@ impl<'a> Meter<'a> {
 
     // Begins a series.
     pub fn series(&mut self, name: &str) -> io::Result<()> {
-        self.before = 0;
+        self.before = None;
         println!(self.rt; "{name}")
     }
 
-    pub fn start(&self) -> io::Result<Instant> {
-        Instant::now(self.rt)
-    }
-
-    // Ends a round.
-    pub fn stop(&mut self, start: Instant) -> io::Result<()> {
+    // Does the work of a round.
+    pub fn round<T: Drop, W: FnMut() -> T>(&mut self, work: &mut W) -> io::Result<T>
+        requires { W.IsAlwaysCallable work.old }
+        ensures again { W.IsAlwaysCallable work.new }
+        ensures done { IfOk result (λ t. W.step work.old t work.new) }
+    {
+        let start = Instant::now(self.rt)?;
+        let done = work();
         let micros = start.elapsed(self.rt)?.as_micros();
         let micros = u64::try_from(micros).unwrap_or(u64::MAX);
-        self.best = self.best.min(micros);
-        Ok(())
+        self.best = Some(self.best.map_or(micros, |best| best.min(micros)));
+        Ok(done)
+    }
+
+    // Does the work in each round, and answers what comes out of the last.
+    pub fn piece<T: Drop, W: FnMut() -> T>(&mut self, mut work: W) -> io::Result<T>
+        requires { W.IsAlwaysCallable work }
+    {
+        let mut done = self.round(&mut work)?;
+        for _ in 1..self.rounds() {
+            done = self.round(&mut work)?;
+        }
+        Ok(done)
     }
 
     // Ends a piece of work of a size.
-    pub fn line(&mut self, size: usize, answer: &str) -> io::Result<()> {
+    pub fn line<A: fmt::Display + Drop>(&mut self, size: usize, answer: A) -> io::Result<()> {
         print!(self.rt; "\t{size}\t")?;
         if self.timed {
-            show_time(self.rt, self.best)?;
-            show_ratio(self.rt, self.best, self.before)?;
-            self.before = self.best;
-            self.best = u64::MAX;
+            if let Some(best) = self.best {
+                show_time(self.rt, best)?;
+                if let Some(before) = self.before {
+                    show_ratio(self.rt, best, before)?;
+                }
+            }
+            self.before = self.best.take();
         } else {
             print!(self.rt; "{answer}")?;
         }

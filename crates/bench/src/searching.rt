@@ -1,48 +1,28 @@
 // Searching the pairs of a goal and a system where there is no lasso, so that all pairs are visited.
 use crate::meter::Meter;
+use crate::studies::study_of;
 use crate::texts::vain;
 use crate::wheel::Wheel;
+use crate::words::found_or_none;
 use lasso::step::Step;
 use std::alloc::Global;
-use study::refusal::Refusal;
-use study::study::Study;
-use study::study::calls::Verdict;
 use system::listed::{Listed, Row, StateRecord};
 use system::system::System;
 use tableau::node::{Edge, Node};
-
-fn word(verdict: Result<Verdict, Refusal>) -> &'static str {
-    match verdict {
-        Ok(Verdict::Found { steps: _, stem: _ }) => "found",
-        Ok(Verdict::None) => "none",
-        Err(_) => "refused",
-    }
-}
 
 // Examines the system, and writes how many pairs there are.
 fn examine<S: System>(meter: &mut Meter, text: &[u8], system: S) -> anyhow::Result<()> {
     let heap = meter.heap();
     let mut nodes = vec![in heap; Node::blank(); 64]?;
     let mut edges = vec![in heap; Edge::blank(); 1024]?;
-    let mut study = Study::new(&mut nodes, &mut edges);
-    let _ = study.load(text);
+    let mut study = study_of(&mut nodes, &mut edges, text);
+    // What is not grown to the end is refused by the examination.
     let _ = study.grow(u64::MAX);
     let pairs = study.used().nodes.saturating_mul(system.count());
     let mut work = vec![in heap; 0u64; pairs.saturating_mul(4)]?;
-    let blank = Step {
-        state: 0,
-        action: 0,
-        marks: 0,
-    };
-    let mut steps = vec![in heap; blank; pairs.saturating_mul(2)]?;
-    let mut answer = "refused";
-    for _ in 0..meter.rounds() {
-        let start = meter.start()?;
-        let verdict = study.examine(system, &mut work, &mut steps);
-        meter.stop(start)?;
-        answer = word(verdict);
-    }
-    meter.line(pairs, answer)?;
+    let mut steps = vec![in heap; Step::default(); pairs.saturating_mul(2)]?;
+    let found = meter.piece(|| study.examine(system, &mut work, &mut steps))?;
+    meter.line(pairs, found.map_or("refused", found_or_none))?;
     Ok(())
 }
 
@@ -63,14 +43,13 @@ fn wheel_rows(heap: Global, groups: usize) -> anyhow::Result<Vec<Row>> {
     let wheel = Wheel { groups };
     let mut rows = Vec::new(heap);
     for from in 0..wheel.count() {
-        for k in 0..wheel.moves(from) {
-            if let Some(step) = wheel.move_at(from, k) {
-                rows.push(Row {
-                    from,
-                    action: step.action,
-                    to: step.target,
-                })?;
-            }
+        let moves = (0..wheel.moves(from)).filter_map(|k| wheel.move_at(from, k));
+        for step in moves {
+            rows.push(Row {
+                from,
+                action: step.action,
+                to: step.target,
+            })?;
         }
     }
     Ok(rows)

@@ -13,7 +13,7 @@ pub struct Wheel {
 
 // How many states so many groups have.
 fn states(groups: usize) -> usize
-    ensures { result ≡ size groups }
+    ensures { (result ≡ size groups) × (result ≤ 4096) }
 {
     if groups <= 1024 { 4 * groups } else { 0 }
 }
@@ -56,17 +56,12 @@ impl System for Wheel {
     }
 
     fn move_at(&self, state: usize, k: usize) -> Option<Move> {
-        if state >= states(self.groups) || state >= 4096 {
+        if state >= states(self.groups) || k >= 4 {
             return None;
         }
-        let first = next_group(self.groups, state);
-        let target = match k {
-            0 => first,
-            1 => first + 1,
-            2 => first + 2,
-            3 => first + 3,
-            _ => return None,
-        };
-        Some(Move { action: 0, target })
+        Some(Move {
+            action: 0,
+            target: next_group(self.groups, state) + k,
+        })
     }
 }

@@ -1,11 +1,10 @@
 // What a case answers, and the line that says so.
 ghost use Rattle.std.specs.Prelude.{◌≡◌};
-ghost use Rattle.document.specs.Faults.{load_fault_code, load_fault_line, load_fault_column};
 
-use document::fault::LoadFault;
+use crate::fault::Refused;
+use document::document::Document;
 use std::fmt;
-use study::refusal::Refusal;
-use tableau::grow::Report;
+use tableau::grow::Growth;
 use tableau::node::Used;
 
 // What a document declares.
@@ -21,14 +20,15 @@ pub struct Counts {
 // What a call of grow did, and the places in use after it.
 #[derive(Clone, Copy)]
 pub struct Progress {
-    pub units: u64,
-    pub report: Report,
+    pub growth: Growth,
     pub used: Used,
 }
 
 // How a goal was settled.
+// Kept: an enum of this program's own, as that of `verdict`: the one tells whether the lasso was confirmed, the other how long
+// its text is.
 #[derive(Clone, Copy)]
-pub enum Settled {
+pub enum How {
     // A lasso was found; `confirmed` if the engine's own judge or audit says yes to it.
     Found { confirmed: bool },
     None,
@@ -36,25 +36,18 @@ pub enum Settled {
     Full,
 }
 
+// How a goal was settled, and the places in use then.
+#[derive(Clone, Copy)]
+pub struct Settled {
+    pub how: How,
+    pub used: Used,
+}
+
 #[derive(Drop)]
 pub enum Answer {
     Loaded(Counts),
-    // A document is refused; with a line alone, and with a column.
-    BadLine {
-        code: u8,
-        line: usize,
-    },
-    BadColumn {
-        code: u8,
-        line: usize,
-        column: usize,
-    },
-    // A call is refused.
-    Refused(Refusal),
-    Settled {
-        how: Settled,
-        used: Used,
-    },
+    Refused(Refused),
+    Settled(Settled),
     Grown(Vec<Progress>),
     Judged(bool),
     // A lasso text was read; `same` if printing gives it again.
@@ -67,40 +60,16 @@ pub enum Answer {
     Printed(String),
 }
 
-impl Answer {
-    pub fn bad_line(fault: LoadFault) -> Answer
-        ensures { result ≡ Answer.BadLine (load_fault_code fault) (load_fault_line fault) }
-    {
-        Answer::BadLine {
-            code: fault.code(),
-            line: fault.line(),
+impl From<&Document> for Counts {
+    fn from(document: &Document) -> Counts {
+        let declared = document.declared();
+        Counts {
+            acts: declared.acts().count(),
+            props: declared.props().count(),
+            progs: declared.progs().count(),
+            forms: declared.forms().count(),
+            weight: declared.weight(),
         }
-    }
-
-    pub fn bad_column(fault: LoadFault) -> Answer
-        ensures { result ≡ Answer.BadColumn (load_fault_code fault) (load_fault_line fault) (load_fault_column fault) }
-    {
-        Answer::BadColumn {
-            code: fault.code(),
-            line: fault.line(),
-            column: fault.column(),
-        }
-    }
-}
-
-fn confirmation(confirmed: bool) -> &'static str {
-    if confirmed { "yes" } else { "NO" }
-}
-
-fn yes_or_no(judged: bool) -> &'static str {
-    if judged { "yes" } else { "no" }
-}
-
-fn reported(report: Report) -> &'static str {
-    match report {
-        Report::Complete => "complete",
-        Report::Full => "full",
-        Report::More => "more",
     }
 }
 
@@ -119,24 +88,20 @@ impl fmt::Display for Counts {
 
 impl fmt::Display for Progress {
     fn fmt<W: fmt::Write>(&self, f: &mut fmt::Formatter<W>) -> fmt::Result {
-        let units = self.units;
-        let report = reported(self.report);
-        let nodes = self.used.nodes;
-        let edges = self.used.edges;
+        let Growth { units, report } = self.growth;
+        let Used { nodes, edges } = self.used;
         write!(f, "{units}:{report}:{nodes}:{edges}")
     }
 }
 
-// How a goal was settled, and the places in use.
-fn show_settled<W: fmt::Write>(f: &mut fmt::Formatter<W>, how: Settled, used: Used) -> fmt::Result {
-    let nodes = used.nodes;
-    let edges = used.edges;
-    match how {
-        Settled::None => write!(f, "none {nodes} {edges}"),
-        Settled::Full => write!(f, "full {nodes} {edges}"),
-        Settled::Found { confirmed } => {
-            let word = confirmation(confirmed);
-            write!(f, "found {nodes} {edges} {word}")
+impl fmt::Display for Settled {
+    fn fmt<W: fmt::Write>(&self, f: &mut fmt::Formatter<W>) -> fmt::Result {
+        let Used { nodes, edges } = self.used;
+        match self.how {
+            How::None => write!(f, "none {nodes} {edges}"),
+            How::Full => write!(f, "full {nodes} {edges}"),
+            How::Found { confirmed: true } => write!(f, "found {nodes} {edges} yes"),
+            How::Found { confirmed: false } => write!(f, "found {nodes} {edges} NO"),
         }
     }
 }
@@ -156,19 +121,21 @@ impl fmt::Display for Answer {
     fn fmt<W: fmt::Write>(&self, f: &mut fmt::Formatter<W>) -> fmt::Result {
         match self {
             Answer::Loaded(counts) => write!(f, "{counts}"),
-            Answer::BadLine { code, line } => write!(f, "refused {code} {line}"),
-            Answer::BadColumn { code, line, column } => write!(f, "refused {code} {line} {column}"),
-            Answer::Refused(refusal) => {
-                let code = refusal.code();
-                write!(f, "refused {code}")
-            }
-            Answer::Settled { how, used } => show_settled(f, *how, *used),
+            Answer::Refused(refused) => write!(f, "{refused}"),
+            Answer::Settled(settled) => write!(f, "{settled}"),
             Answer::Grown(calls) => show_grown(f, calls),
-            Answer::Judged(judged) => f.write_str(yes_or_no(*judged)),
-            Answer::Scanned { steps, stem, same } => {
-                let word = if *same { "same" } else { "OTHER" };
-                write!(f, "{steps} {stem} {word}")
-            }
+            Answer::Judged(true) => write!(f, "yes"),
+            Answer::Judged(false) => write!(f, "no"),
+            Answer::Scanned {
+                steps,
+                stem,
+                same: true,
+            } => write!(f, "{steps} {stem} same"),
+            Answer::Scanned {
+                steps,
+                stem,
+                same: false,
+            } => write!(f, "{steps} {stem} OTHER"),
             Answer::Printed(text) => {
                 let len = text.len();
                 write!(f, "{len} {text}")

@@ -1,7 +1,8 @@
 // The file of cases, read from the front: words, numbers and byte strings.
-ghost use Rattle.std.specs.Prelude.{◌≡◌, ℕ, ◌+◌, ◌<◌, ◌≤◌, length, IfOk, ◌==◌};
+ghost use Rattle.std.specs.Prelude.{◌≡◌, ℕ, ◌+◌, ◌<◌, ◌≤◌, length, IfOk, IsOkUnless, ◌==◌, ◌||◌, vec_len};
 
 use crate::stop::Stop;
+use std::alloc::Global;
 
 // Places that a record may ask for.
 pub const MOST_PLACES: usize = 4194304;
@@ -13,7 +14,9 @@ pub struct Cursor<'a> {
     ghost within: { at ≤ length file.now },
 }
 
-fn is_gap(byte: u8) -> bool {
+fn is_gap(byte: u8) -> bool
+    ensures { result ≡ ((byte == 32) || (byte == 10)) }
+{
     byte == b' ' || byte == b'\n'
 }
 
@@ -22,15 +25,14 @@ fn gap_from(file: &[u8], at: usize) -> usize
     requires { at ≤ length file.now }
     ensures { (at ≤ result) × (result ≤ length file.now) }
 {
-    for i in at..file.len() {
-        if is_gap(file[i]) {
-            return i;
-        }
-    }
-    file.len()
+    file[at..]
+        .iter()
+        .position(|byte| is_gap(*byte))
+        .map_or(file.len(), |i| at + i)
 }
 
 // The number that the word spells in decimal.
+// Kept: beside `lasso::decimal::read_state`, which takes at most four digits and no leading zero.
 fn decimal(word: &[u8]) -> Option<u64> {
     let mut value: u64 = 0;
     for byte in word {
@@ -56,7 +58,9 @@ impl<'a> Cursor<'a> {
     }
 
     // That the file is malformed here.
-    pub fn malformed(&self) -> Stop {
+    pub fn malformed(&self) -> Stop
+        ensures { result ≡ Stop.Malformed self.now.at }
+    {
         Stop::Malformed { at: self.at }
     }
 
@@ -71,17 +75,21 @@ impl<'a> Cursor<'a> {
         &file[start..end]
     }
 
-    pub fn number(&mut self) -> Result<u64, Stop> {
+    // A number that the type holds.
+    pub fn number<T: TryFrom<u64>>(&mut self) -> Result<T, Stop>
+    where
+        T::Error: Drop,
+        ensures { IsOkUnless result (Stop.Malformed self.old.at) }
+    {
         let stop = self.malformed();
-        match decimal(self.word()) {
-            Some(value) => Ok(value),
-            None => Err(stop),
-        }
+        let value = decimal(self.word()).ok_or(stop)?;
+        T::try_from(value).map_err(|_| stop)
     }
 
     // A number up to a limit.
     fn number_to(&mut self, most: u64) -> Result<u64, Stop>
-        ensures { IfOk result (λ n. n ≤ most) }
+        ensures small { IfOk result (λ n. n ≤ most) }
+        ensures malformed { IsOkUnless result (Stop.Malformed self.old.at) }
     {
         let stop = self.malformed();
         let value = self.number()?;
@@ -90,19 +98,10 @@ impl<'a> Cursor<'a> {
 
     // A number of places.
     pub fn places(&mut self) -> Result<usize, Stop>
-        ensures { IfOk result (λ n. n ≤ 4194304) }
+        ensures few { IfOk result (λ n. n ≤ 4194304) }
+        ensures malformed { IsOkUnless result (Stop.Malformed self.old.at) }
     {
         Ok(self.number_to(MOST_PLACES as u64)? as usize)
-    }
-
-    // A number of 16 bits: a state, or a set of marks or actions.
-    pub fn short(&mut self) -> Result<u16, Stop> {
-        Ok(self.number_to(65535)? as u16)
-    }
-
-    // A number of 8 bits: an action.
-    pub fn byte(&mut self) -> Result<u8, Stop> {
-        Ok(self.number_to(255)? as u8)
     }
 
     // A byte string: its length, and then that many bytes and a line feed.
@@ -119,5 +118,22 @@ impl<'a> Cursor<'a> {
         let end = start + len;
         self.at = end + 1;
         Ok(&file[start..end])
+    }
+
+    // So many entries in a row.
+    pub fn list<T: Drop, R: FnMut(&mut Cursor<'a>) -> Result<T, Stop>>(
+        &mut self,
+        heap: Global,
+        count: usize,
+        mut read: R,
+    ) -> Result<Vec<T>, Stop>
+        requires { R.IsAlwaysCallable read }
+        ensures { IfOk result (λ v. vec_len v ≡ count) }
+    {
+        let mut all = Vec::new(heap);
+        for _ in 0..count {
+            all.push(read(self)?)?;
+        }
+        Ok(all)
     }
 }

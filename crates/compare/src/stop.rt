@@ -1,4 +1,7 @@
 // Why the program ends before the last case.
+ghost use Rattle.compare.specs.declared.stop.Stop.TheVariants.{NoMemory};
+ghost use Rattle.std.specs.Prelude.{◌≡◌};
+
 use std::alloc::{AllocError, AllocFailed};
 use std::error::Error;
 use std::fmt;
@@ -22,13 +25,17 @@ impl fmt::Display for Stop {
 impl Error for Stop {}
 
 impl From<AllocError> for Stop {
+    ghost from_gives = { λ _ s. s ≡ NoMemory };
+
     fn from(_error: AllocError) -> Stop {
         Stop::NoMemory
     }
 }
 
 impl<T: Drop> From<AllocFailed<T>> for Stop {
-    fn from(_refused: AllocFailed<T>) -> Stop {
+    ghost from_gives = { λ _ s. s ≡ NoMemory };
+
+    fn from(_failed: AllocFailed<T>) -> Stop {
         Stop::NoMemory
     }
 }

@@ -3,20 +3,14 @@ use crate::cursor::Cursor;
 use crate::stop::Stop;
 use lasso::step::Step;
 use std::alloc::Global;
+use system::joint::Joint;
 use system::listed::{Listed, Row, StateRecord};
-
-pub fn blank_step() -> Step {
-    Step {
-        state: 0,
-        action: 0,
-        marks: 0,
-    }
-}
+use system::system::System;
 
 fn read_step(cursor: &mut Cursor) -> Result<Step, Stop> {
-    let action = cursor.byte()?;
-    let state = cursor.short()?;
-    let marks = cursor.short()?;
+    let action = cursor.number()?;
+    let state = cursor.number()?;
+    let marks = cursor.number()?;
     Ok(Step {
         state,
         action,
@@ -27,11 +21,7 @@ fn read_step(cursor: &mut Cursor) -> Result<Step, Stop> {
 // How many steps, and then each.
 pub fn read_steps(heap: Global, cursor: &mut Cursor) -> Result<Vec<Step>, Stop> {
     let count = cursor.places()?;
-    let mut steps = Vec::new(heap);
-    for _ in 0..count {
-        steps.push(read_step(cursor)?)?;
-    }
-    Ok(steps)
+    cursor.list(heap, count, read_step)
 }
 
 // The tables of a listed system.
@@ -43,39 +33,25 @@ pub struct Table {
 }
 
 fn read_record(cursor: &mut Cursor) -> Result<StateRecord, Stop> {
-    let starts = cursor.byte()? != 0;
-    let marks = cursor.short()?;
+    let starts = cursor.number::<u8>()? != 0;
+    let marks = cursor.number()?;
     Ok(StateRecord { starts, marks })
 }
 
 fn read_row(cursor: &mut Cursor) -> Result<Row, Stop> {
-    let from = usize::from(cursor.short()?);
-    let action = cursor.byte()?;
-    let to = usize::from(cursor.short()?);
+    let from = usize::from(cursor.number::<u16>()?);
+    let action = cursor.number()?;
+    let to = usize::from(cursor.number::<u16>()?);
     Ok(Row { from, action, to })
 }
 
 impl Table {
-    fn empty(heap: Global) -> Table {
-        Table {
-            actions: 0,
-            records: Vec::new(heap),
-            rows: Vec::new(heap),
-        }
-    }
-
     fn read(heap: Global, cursor: &mut Cursor) -> Result<Table, Stop> {
-        let actions = cursor.short()?;
+        let actions = cursor.number()?;
         let record_count = cursor.places()?;
         let row_count = cursor.places()?;
-        let mut records = Vec::new(heap);
-        for _ in 0..record_count {
-            records.push(read_record(cursor)?)?;
-        }
-        let mut rows = Vec::new(heap);
-        for _ in 0..row_count {
-            rows.push(read_row(cursor)?)?;
-        }
+        let records = cursor.list(heap, record_count, read_record)?;
+        let rows = cursor.list(heap, row_count, read_row)?;
         Ok(Table {
             actions,
             records,
@@ -88,61 +64,51 @@ impl Table {
     }
 }
 
-// How the tables a, b and c are put together.
-#[derive(Clone, Copy)]
-pub enum Shape {
-    // a
-    One,
-    // a and b
-    Two,
-    // a and b, with c
-    LeftFirst,
-    // a, with b and c
-    RightFirst,
-}
-
-// A system's tables; those that its shape leaves out are empty.
+// A system's tables, as they are put together.
 #[derive(Drop)]
-pub struct Parts {
-    pub shape: Shape,
-    pub a: Table,
-    pub b: Table,
-    pub c: Table,
+pub enum Tables {
+    One(Table),
+    Two(Table, Table),
+    // The first and the second, with the third.
+    LeftFirst(Table, Table, Table),
+    // The first, with the second and the third.
+    RightFirst(Table, Table, Table),
 }
 
-fn read_shape(cursor: &mut Cursor) -> Result<Shape, Stop> {
-    let stop = cursor.malformed();
-    match cursor.number()? {
-        1 => Ok(Shape::One),
-        2 => Ok(Shape::Two),
-        3 => Ok(Shape::LeftFirst),
-        4 => Ok(Shape::RightFirst),
-        _ => Err(stop),
+// A question to a system of any kind.
+pub trait Question {
+    type Answer;
+
+    fn put<S: System>(self, system: S) -> Self::Answer;
+}
+
+impl Tables {
+    pub fn read(heap: Global, cursor: &mut Cursor) -> Result<Tables, Stop> {
+        let stop = cursor.malformed();
+        let shape = cursor.number::<u64>()?;
+        let mut table = || Table::read(heap, cursor);
+        match shape {
+            1 => Ok(Tables::One(table()?)),
+            2 => Ok(Tables::Two(table()?, table()?)),
+            3 => Ok(Tables::LeftFirst(table()?, table()?, table()?)),
+            4 => Ok(Tables::RightFirst(table()?, table()?, table()?)),
+            _ => Err(stop),
+        }
     }
-}
 
-fn has_b(shape: Shape) -> bool {
-    !matches!(shape, Shape::One)
-}
-
-fn has_c(shape: Shape) -> bool {
-    matches!(shape, Shape::LeftFirst | Shape::RightFirst)
-}
-
-impl Parts {
-    pub fn read(heap: Global, cursor: &mut Cursor) -> Result<Parts, Stop> {
-        let shape = read_shape(cursor)?;
-        let a = Table::read(heap, cursor)?;
-        let b = if has_b(shape) {
-            Table::read(heap, cursor)?
-        } else {
-            Table::empty(heap)
-        };
-        let c = if has_c(shape) {
-            Table::read(heap, cursor)?
-        } else {
-            Table::empty(heap)
-        };
-        Ok(Parts { shape, a, b, c })
+    // Puts the question to the system that the tables list.
+    pub fn put<Q: Question>(&self, question: Q) -> Q::Answer {
+        match self {
+            Tables::One(a) => question.put(a.listed()),
+            Tables::Two(a, b) => question.put(Joint::new(a.listed(), b.listed())),
+            Tables::LeftFirst(a, b, c) => {
+                let left = Joint::new(a.listed(), b.listed());
+                question.put(Joint::new(left, c.listed()))
+            }
+            Tables::RightFirst(a, b, c) => {
+                let right = Joint::new(b.listed(), c.listed());
+                question.put(Joint::new(a.listed(), right))
+            }
+        }
     }
 }

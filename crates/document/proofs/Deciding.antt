@@ -1,12 +1,12 @@
 -- Each question that a text asks is decided, so every text has an outcome.
-use Rattle.std.proofs.Common.{◌≡◌, ℕ, zero, suc, ◌+◌, ◌<◌, ◌≤◌, Bool, true, not, ◌&&◌, eqb, ◌⊎◌, List, [], ◌∷◌, ◌++◌, length, get_or, take, Some, None, Option, sym, refl, ap, ◌∙◌, subst, inl, inr, ⊎_elim, arith}
+use Rattle.std.proofs.Common.{◌≡◌, ℕ, zero, suc, ◌+◌, ◌<◌, ◌≤◌, Bool, true, ◌⊎◌, List, [], ◌∷◌, ◌++◌, length, get_or, take, Some, None, Option, sym, refl, ap, ◌∙◌, subst, inl, inr, ⊎_elim, arith}
 use Rattle.std.specs.List.{AllByRecursion}
 use Rattle.std.proofs.lemmas.Bool.{cases_eq, cases_lt, cases_Bool, both_ways}
 use Rattle.program.specs.Automata.{names}
 use Rattle.program.specs.Names.{Named, letter, naming as is-naming}
 use Rattle.program.specs.Spellings.{AbsentIn, Missing}
 use Rattle.program.specs.Spellings.{MeansIn, SpellsProgramIn}
-use Rattle.program.specs.Steps.{stand, stepped}
+use Rattle.program.specs.Steps.{start, whole, stepped}
 use Rattle.program.specs.Text.{Tree, leaf, choice, chain, repeat, WellFormed, FaultAt}
 use Rattle.program.specs.Words.{Program, act, either, seq, star}
 use Rattle.program.specs.declared.check.Prefix.{Prefix}
@@ -117,20 +117,20 @@ reads bytes =
 abbrev Checked : List ℕ → Type 0
 Checked text = ((c : ℕ) × FaultAt text c) ⊎ WellFormed text
 
-checked_from : (left at : ℕ) (text : List ℕ) (s : Prefix) → at + left ≡ length text → Goes (stand true 0 0) (take at text) s → Checked text
+checked_from : (left at : ℕ) (text : List ℕ) (s : Prefix) → at + left ≡ length text → Goes start (take at text) s → Checked text
 checked_from zero at text s e g =
     ⊎_elim
     (λ w. inr (ends_whole text at s (omega arith) g w))
     (λ w. inl (at + 1, ends_early text at s (omega arith) (omega arith) g w))
-    (cases_Bool (not s.due && eqb s.depth 0))
+    (cases_Bool (whole s))
 checked_from (suc left) at text s e g = on (stepped s (get_or text at 0)) refl (checked_from left (at + 1) text)
   where
-    on : (o : Option Prefix) → stepped s (get_or text at 0) ≡ o → ((m : Prefix) → at + 1 + left ≡ length text → Goes (stand true 0 0) (take (at + 1) text) m → Checked text) → Checked text
+    on : (o : Option Prefix) → stepped s (get_or text at 0) ≡ o → ((m : Prefix) → at + 1 + left ≡ length text → Goes start (take (at + 1) text) m → Checked text) → Checked text
     on None q more = inl (at + 1, ends_refused text at s (omega arith) g q)
     on (Some m) q more = more m (omega arith) (goes_more text at s m (omega arith) g q)
 
 checked : (text : List ℕ) → Checked text
-checked text = checked_from (length text) 0 text (stand true 0 0) (omega arith) refl
+checked text = checked_from (length text) 0 text start (omega arith) refl
 
 malformed : (x : Line) → ((c : ℕ) × MalformedAt x c) ⊎ ((c : ℕ) → MalformedAt x c → ⊥)
 malformed (prog_line n text) = ⊎_elim (λ f. inl f) (λ w. inr (λ c f. f.unwell w)) (checked text)

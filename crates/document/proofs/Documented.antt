@@ -1,16 +1,15 @@
 -- The document in memory.
-use Rattle.std.proofs.Common.{ℕ, length, get_or, take, sym, refl, subst, arith}
-use Rattle.std.proofs.lemmas.List.{get_or-take}
+use Rattle.std.proofs.Common.{ℕ, length, get_or, sym, refl, subst, arith}
 use Rattle.document.specs.Documents.{Refers, WellFormed}
 use Rattle.document.specs.Documents as documents
-use Rattle.document.specs.Forms.{Earlier}
+use Rattle.document.specs.Forms.{Earlier, forms_of}
 use Rattle.document.specs.Holds.{Holds}
 use Rattle.document.specs.Lines.{Declarations, document_of}
 use Rattle.document.specs.Represents.{Represents}
 use Rattle.document.specs.declared.document.Document.{Document}
 use Rattle.document.specs.declared.form.Form.{Form}
 use Rattle.document.specs.declared.form.Form.TheVariants.{True, Prop, Not, And, Or, Next, Until}
-use Rattle.document.proofs.Held.{told, of_all, acts_long, props_long, forms_long, refers}
+use Rattle.document.proofs.Held.{told, of_all, acts_long, props_long, forms_long, form_held, refers}
 
 pub refers_so : (d : documents.Document) (e : ℕ) (f : Form) → Earlier d.props d.acts (length d.progs) e f → Refers d e f
 refers_so d e True h = tt
@@ -31,7 +30,7 @@ represents doc =
       progs = sym h.progs;
       rows = h.rows;
       forms = sym (forms_long held);
-      lines = λ e less. sym (get_or-take held.forms.count held.lines e True (omega (arith, forms_long held)));
+      lines = λ e less. sym (form_held held e (omega (arith, forms_long held)));
       goal = refl;
     })
 
@@ -48,10 +47,10 @@ well_formed doc =
       short_progs = λ p less. (h.rows p less).few;
       light = omega (arith, h.weighs, held.light);
       refers = λ e less.
-          let a : Earlier held.props.count held.acts.count held.progs.count e (get_or (take held.forms.count held.lines) e True) = refers held e (omega (arith, forms_long held)) in
-          refers_so (document_of (told held ps) doc.goal) e (get_or (take held.forms.count held.lines) e True)
-          (subst (λ v. Earlier v (length (told held ps).acts) (length ps) e (get_or (take held.forms.count held.lines) e True)) (sym (props_long held))
-          (subst (λ v. Earlier held.props.count v (length ps) e (get_or (take held.forms.count held.lines) e True)) (sym (acts_long held))
-          (subst (λ v. Earlier held.props.count held.acts.count v e (get_or (take held.forms.count held.lines) e True)) (sym h.progs) a)));
+          let a : Earlier held.props.count held.acts.count held.progs.count e (get_or (forms_of held.forms.count held.lines) e True) = refers held e (omega (arith, forms_long held)) in
+          refers_so (document_of (told held ps) doc.goal) e (get_or (forms_of held.forms.count held.lines) e True)
+          (subst (λ v. Earlier v (length (told held ps).acts) (length ps) e (get_or (forms_of held.forms.count held.lines) e True)) (sym (props_long held))
+          (subst (λ v. Earlier held.props.count v (length ps) e (get_or (forms_of held.forms.count held.lines) e True)) (sym (acts_long held))
+          (subst (λ v. Earlier held.props.count held.acts.count v e (get_or (forms_of held.forms.count held.lines) e True)) (sym h.progs) a)));
       aimed = omega (arith, forms_long held, doc.aimed);
     })

@@ -1,5 +1,5 @@
 -- What comes of form lines.
-use Rattle.std.proofs.Common.{◌≡◌, ℕ, ◌+◌, ◌<◌, ◌≤◌, List, [], ◌∷◌, ◌++◌, length, get_or, take, set, codes, sym, refl, ap, ◌∙◌, subst, ⊎_elim, arith}
+use Rattle.std.proofs.Common.{◌≡◌, ℕ, ◌+◌, ◌<◌, ◌≤◌, List, [], ◌∷◌, ◌++◌, length, get_or, set, codes, sym, refl, ap, ◌∙◌, subst, ⊎_elim, arith}
 use Rattle.std.specs.List.{AllByRecursion}
 use Rattle.std.proofs.lemmas.Bool.{cases_lt}
 use Rattle.program.specs.Names.{Named}
@@ -7,17 +7,15 @@ use Rattle.program.specs.Spellings.{Missing}
 use Rattle.program.specs.Words.{Program}
 use Rattle.program.proofs.Spellings.{one_number_in}
 use Rattle.document.specs.Documents.{weight}
-use Rattle.document.specs.Faults.{line_fault_code, line_fault_column}
-use Rattle.document.specs.Forms.{Earlier, weight_in}
+use Rattle.document.specs.Forms.{Earlier, forms_of, weight_in}
 use Rattle.document.specs.Holds.{Holds}
 use Rattle.document.specs.Kept.{names_of}
 use Rattle.document.specs.Kinds.{first_word, word_of, operands_of, form_with}
 use Rattle.document.specs.Lines.{Declarations, Line, act_line, prop_line, goal_line, prog_line, true_form, prop_form, not_form, and_form, or_form, next_form, until_form, shown, named_fields, InPlace, MalformedAt, ReadsAs}
 use Rattle.document.specs.Declaring.{NewByFirst, NewName, NamesKnown, KnownName, FormOfByFirst, FormFitsByFirst, WithinByFirst, FaultyByFirst, shape, naming, limit, AddsFormByFirst, AddsByFirst}
 use Rattle.document.specs.Texts.{fields}
-use Rattle.document.specs.Told.{word_in, NewBelow, Declares}
+use Rattle.document.specs.Told.{word_in, Headed, Unheaded, Declares}
 use Rattle.document.specs.declared.declared.Declared.{Declared}
-use Rattle.document.specs.declared.fault.LineFault.{LineFault}
 use Rattle.document.specs.declared.form.Form.{Form}
 use Rattle.document.specs.declared.form.Form.TheVariants as form
 use Rattle.document.specs.declared.words.Word.{Word}
@@ -26,10 +24,9 @@ use Rattle.document.specs.declared.words.Kind.{Kind}
 use Rattle.document.specs.declared.words.Kind.TheVariants.{True, Prop, Not, And, Or, Next, Until}
 use Rattle.document.proofs.Adding.{holds_form}
 use Rattle.document.proofs.Held.{told, same, of_all, weight_is, weight_push, forms_long}
-use Rattle.document.proofs.Lined.{below_fault}
 use Rattle.document.proofs.Refused.{not_both}
 use Rattle.document.proofs.Short.{three, four, five, six}
-use Rattle.document.proofs.Shown.{at_form, wrong_count, wrong_name}
+use Rattle.document.proofs.Shown.{at_form, wrong_line}
 
 -- a line begins with one of the words
 pub word_known : (x : Line) → (k : Word) × (get_or (shown x) 0 [] ≡ first_word k)
@@ -171,9 +168,9 @@ one_form d (until_form n p r q) f g a b =
 
 -- the weight with one form more
 weight_more : (held : Declared) (ps : List Program) (f : Form) → Holds held (told held ps) → Earlier held.props.count held.acts.count held.progs.count held.forms.count f
-    → weight ps (take held.forms.count held.lines ++ f ∷ []) ≡ held.weight + weight_in held.rows f
+    → weight ps (forms_of held.forms.count held.lines ++ f ∷ []) ≡ held.weight + weight_in held.rows f
 weight_more held ps f h known =
-    let a = weight_push ps (take held.forms.count held.lines) f in
+    let a = weight_push ps (forms_of held.forms.count held.lines) f in
     let b = weight_is ps held.rows held.props.count held.acts.count held.forms.count f h.rows
     (subst (λ v. Earlier held.props.count held.acts.count v held.forms.count f) (sym h.progs) known) in
     omega (arith, h.weighs)
@@ -182,26 +179,23 @@ module _ (held : Declared) (bytes : List ℕ) (w : word_in bytes ≡ codes "form
   abbrev first : List ℕ
   first = get_or (fields bytes) 1 []
 
-  pub form_kind : (d : Declarations) → ((k : Kind) → get_or (fields bytes) 2 [] ≡ word_of k → ⊥) → FaultyByFirst d bytes 2 0
-  form_kind d un =
-      shape (λ x r. let k = kind_in x (ap (λ v. get_or v 0 []) (sym r.0) ∙ w) in un k.0 (ap (λ v. get_or v 2 []) r.0 ∙ k.1))
+  pub form_shape : (d : Declarations) → Unheaded bytes → FaultyByFirst d bytes 2 0
+  form_shape d un =
+      ⊎_elim
+      (λ no. shape (λ x r. let k = kind_in x (ap (λ v. get_or v 0 []) (sym r.0) ∙ w) in no k.0 (ap (λ v. get_or v 2 []) r.0 ∙ k.1)))
+      (λ a.
+      let fs = fields bytes in
+      wrong_line d bytes (form_with a.0 fs) (at_form a.0 fs w a.1)
+      (λ r. a.2 (a.1, ap length r.0 ∙ shown_long a.0 fs, first_named a.0 fs r.1, operands_named a.0 fs r.1)))
+      un
 
-  module _ (k : Kind) (is : get_or (fields bytes) 2 [] ≡ word_of k) where
+  module _ (k : Kind) where
     abbrev line : Line
     line = form_with k (fields bytes)
 
-    pub form_count : (d : Declarations) → (length (fields bytes) ≡ 3 + operands_of k → ⊥) → FaultyByFirst d bytes 2 0
-    form_count d ne = wrong_count d bytes line (at_form k (fields bytes) w is) (λ e. ne (e ∙ shown_long k (fields bytes)))
-
-    pub form_name : (d : Declarations) → (Named first → ⊥) → FaultyByFirst d bytes 2 0
-    form_name d un = wrong_name d bytes line (at_form k (fields bytes) w is) (λ a. un (first_named k (fields bytes) a))
-
-    pub form_operands : (d : Declarations) → (((j : ℕ) → j < operands_of k → Named (get_or (fields bytes) (3 + j) [])) → ⊥) → FaultyByFirst d bytes 2 0
-    form_operands d un = wrong_name d bytes line (at_form k (fields bytes) w is) (λ a. un (operands_named k (fields bytes) a))
-
-    module _ (count : length (fields bytes) ≡ 3 + operands_of k) (named : Named first) (operands : (j : ℕ) → j < operands_of k → Named (get_or (fields bytes) (3 + j) [])) where
+    module _ (head : Headed k bytes) where
       form_reads : ReadsAs bytes line
-      form_reads = (reads k (fields bytes) w is count, all_named k (fields bytes) named operands)
+      form_reads = (reads k (fields bytes) w head.0 head.1, all_named k (fields bytes) head.2 head.3)
 
       pub form_known : KnownName (names_of held.forms) first → (d : Declarations) → Holds held d → FaultyByFirst d bytes 4 0
       form_known known =
@@ -212,15 +206,13 @@ module _ (held : Declared) (bytes : List ℕ) (w : word_in bytes ≡ codes "form
       pub form_unknown : (d : Declarations) → (NamesKnown d line → ⊥) → FaultyByFirst d bytes 4 0
       form_unknown d un = naming line form_reads (form_lines d k (fields bytes)).sound (λ x. un x.1)
 
-      pub form_below : (g : LineFault) (f : Form) → ((d : Declarations) → Holds held d → FormOfByFirst d line f) → NewBelow (names_of held.forms) held.forms.count first 64 g
-          → (d : Declarations) → Holds held d → FaultyByFirst d bytes (line_fault_code g) (line_fault_column g)
-      form_below g f is-form h =
-          of_all held (λ d. FaultyByFirst d bytes (line_fault_code g) (line_fault_column g)) (λ ps x.
+      pub form_full : (f : Form) → ((d : Declarations) → Holds held d → FormOfByFirst d line f) → Missing (names_of held.forms) first → 64 ≤ held.forms.count
+          → (d : Declarations) → Holds held d → FaultyByFirst d bytes 5 0
+      form_full f is-form new high =
+          of_all held (λ d. FaultyByFirst d bytes 5 0) (λ ps x.
           let d = told held ps in
           let s = form_lines d k (fields bytes) in
-          below_fault d bytes (names_of held.forms) held.forms.count first 64 g h
-          (λ known. naming line form_reads s.sound (λ y. not_both (names_of held.forms) first (s.new_out y.0) known))
-          (λ new high. limit line form_reads s.sound (s.new_in new, known_from d k (fields bytes) f (is-form d x)) (λ y. omega (arith, (s.fits_out y).0, forms_long held))))
+          limit line form_reads s.sound (s.new_in new, known_from d k (fields bytes) f (is-form d x)) (λ y. omega (arith, (s.fits_out y).0, forms_long held)))
 
       module _ (f : Form) (is-form : (d : Declarations) → Holds held d → FormOfByFirst d line f)
           (known : Earlier held.props.count held.acts.count held.progs.count held.forms.count f) (new : Missing (names_of held.forms) first) where
@@ -235,18 +227,17 @@ module _ (held : Declared) (bytes : List ℕ) (w : word_in bytes ≡ codes "form
         pub form_done : (next : Declared) → held.forms.count < 64 → held.weight + weight_in held.rows f ≤ 256
             → next.forms.count ≡ held.forms.count + 1
             → names_of next.forms ≡ names_of held.forms ++ first ∷ []
-            → next.lines ≡ set held.lines held.forms.count f
-            → next.bases ≡ set held.bases held.forms.count held.weight
+            → next.lines ≡ set held.lines held.forms.count (record { form = f; base = held.weight })
             → next.weight ≡ held.weight + weight_in held.rows f
             → (next.acts ≡ held.acts) × (next.props ≡ held.props) × (next.progs ≡ held.progs) × (next.rows ≡ held.rows)
             → (d : Declarations) → Holds held d → Declares d bytes next
-        form_done next few light more names_more lines bases heavier rest =
+        form_done next few light more names_more lines heavier rest =
             of_all held (λ d. Declares d bytes next) (λ ps x.
             let d = told held ps in
             let s = form_lines d k (fields bytes) in
-            let y = holds_form held next ps f few known more lines bases heavier rest.2 rest.3 x in
-            let one : (g : Form) → FormOfByFirst d line g → weight ps (take held.forms.count held.lines ++ g ∷ []) ≤ 256
-            = λ g is-g. subst (λ v. weight ps (take held.forms.count held.lines ++ v ∷ []) ≤ 256) (one_form d line f g (is-form d x) is-g) (omega (arith, weight_more held ps f x known)) in
+            let y = holds_form held next ps f few known more lines heavier rest.2 rest.3 x in
+            let one : (g : Form) → FormOfByFirst d line g → weight ps (forms_of held.forms.count held.lines ++ g ∷ []) ≤ 256
+            = λ g is-g. subst (λ v. weight ps (forms_of held.forms.count held.lines ++ v ∷ []) ≤ 256) (one_form d line f g (is-form d x) is-g) (omega (arith, weight_more held ps f x known)) in
             record {
               line = line;
               after = told next ps;

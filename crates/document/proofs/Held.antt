@@ -1,22 +1,23 @@
 -- What is held in memory, and what one more declaration leaves of it.
 use Rattle.std.proofs.Common.{◌≡◌, ℕ, suc, ◌+◌, ◌*◌, ◌<◌, ltb, List, [], ◌∷◌, ◌++◌, length, get_or, take, sym, refl, ap, ◌∙◌, subst, arith}
-use Rattle.std.proofs.lemmas.List.{get_or_append_left, get_or-take, length-take-le}
+use Rattle.std.proofs.lemmas.List.{get_or_append_left, get_or-map, get_or-take, length-map, length-take-le}
 use Rattle.std.proofs.lemmas.Bool.{cond-true, lt-ltb}
 use Rattle.program.specs.Automata.{names}
+use Rattle.program.specs.Names.{spelled}
 use Rattle.program.specs.Rows.{RowOf}
 use Rattle.program.specs.RowStates.{states_in}
 use Rattle.program.specs.Words.{Program, act}
 use Rattle.program.specs.declared.row.Row.{Row}
 use Rattle.document.specs.Documents.{weight, weight_of}
-use Rattle.document.specs.Forms.{Earlier, form_in, row_at, weight_in}
+use Rattle.document.specs.Forms.{Earlier, blank_line, form_in, forms_of, row_at, weight_in}
 use Rattle.document.specs.Holds.{Holds}
 use Rattle.document.specs.Kept.{names_of}
 use Rattle.document.specs.Lines.{Declarations}
 use Rattle.document.specs.declared.declared.Declared.{Declared}
 use Rattle.document.specs.declared.form.Form.{Form}
+use Rattle.document.specs.declared.names.Names.{Names}
 use Rattle.document.specs.declared.form.Form.TheVariants.{True, Prop, Not, And, Or, Next, Until}
 use Rattle.document.proofs.Operands.{earlier_so}
-use Rattle.document.proofs.Spellings.{length_spellings}
 
 -- the declarations that are held, where these are the programs
 abbrev pub told : Declared → List Program → Declarations
@@ -27,7 +28,7 @@ told held ps =
       prog_names = names_of held.progs;
       progs = ps;
       form_names = names_of held.forms;
-      forms = take held.forms.count held.lines;
+      forms = forms_of held.forms.count held.lines;
     }
 
 pub same : (x y : Declarations) → x.acts ≡ y.acts → x.props ≡ y.props → x.prog_names ≡ y.prog_names → x.progs ≡ y.progs → x.form_names ≡ y.form_names → x.forms ≡ y.forms → x ≡ y
@@ -47,20 +48,23 @@ pub of_all : (held : Declared) (P : Declarations → Type 0) → ((ps : List Pro
 of_all held P f d h = let e = told_is held d h in subst P e (f d.progs (subst (Holds held) (sym e) h))
 
 -- how many names of each kind
+names_long : (n : Names) → length (names_of n) ≡ n.count
+names_long n = length-map (take n.count n.list) spelled ∙ length-take-le n.count n.list (omega (arith, n.few, n.room))
+
 pub acts_long : (held : Declared) → length (names_of held.acts) ≡ held.acts.count
-acts_long held = length_spellings held.acts.count held.acts.list (omega (arith, held.acts.few, held.acts.room))
+acts_long held = names_long held.acts
 
 pub props_long : (held : Declared) → length (names_of held.props) ≡ held.props.count
-props_long held = length_spellings held.props.count held.props.list (omega (arith, held.props.few, held.props.room))
+props_long held = names_long held.props
 
-pub progs_long : (held : Declared) → length (names_of held.progs) ≡ held.progs.count
-progs_long held = length_spellings held.progs.count held.progs.list (omega (arith, held.progs.few, held.progs.room))
+pub forms_long : (held : Declared) → length (forms_of held.forms.count held.lines) ≡ held.forms.count
+forms_long held = length-map (take held.forms.count held.lines) _ ∙ length-take-le held.forms.count held.lines (omega (arith, held.forms.few, held.room))
 
-pub form_names_long : (held : Declared) → length (names_of held.forms) ≡ held.forms.count
-form_names_long held = length_spellings held.forms.count held.forms.list (omega (arith, held.forms.few, held.forms.room))
-
-pub forms_long : (held : Declared) → length (take held.forms.count held.lines) ≡ held.forms.count
-forms_long held = length-take-le held.forms.count held.lines (omega (arith, held.forms.few, held.room))
+-- the forms that are held, by number
+pub form_held : (held : Declared) (e : ℕ) → e < held.forms.count → get_or (forms_of held.forms.count held.lines) e True ≡ form_in held.lines e
+form_held held e h =
+    get_or-map (λ l. l.form) (take held.forms.count held.lines) e blank_line True (omega (arith, length-take-le held.forms.count held.lines (omega (arith, held.forms.few, held.room))))
+    ∙ ap (λ l. l.form) (get_or-take held.forms.count held.lines e blank_line h)
 
 -- the states of a row that is a program's
 row_states : (p : Program) (row : Row) → RowOf p row → states_in row ≡ suc (length (names p))
@@ -103,7 +107,7 @@ weight_push ps (g ∷ fs) f = let h = weight_push ps fs f in omega arith
 
 -- each form speaks of what is declared before it
 pub refers : (held : Declared) (e : ℕ) → e < held.forms.count
-    → Earlier held.props.count held.acts.count held.progs.count e (get_or (take held.forms.count held.lines) e True)
+    → Earlier held.props.count held.acts.count held.progs.count e (get_or (forms_of held.forms.count held.lines) e True)
 refers held e h =
-    subst (Earlier held.props.count held.acts.count held.progs.count e) (sym (get_or-take held.forms.count held.lines e True h))
+    subst (Earlier held.props.count held.acts.count held.progs.count e) (sym (form_held held e h))
     (earlier_so held.props.count held.acts.count held.progs.count e (form_in held.lines e) (held.ordered e h))

@@ -17,5 +17,4 @@ pub mod Refused
 pub mod Short
 pub mod Shown
 pub mod Spelling
-pub mod Spellings
 pub mod ThreeLines

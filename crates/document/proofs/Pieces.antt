@@ -1,17 +1,27 @@
 -- The pieces of a list: its first piece, and the rest.
-use Rattle.std.proofs.Common.{◌≡◌, ℕ, zero, suc, ◌+◌, ◌-◌, ◌<◌, ◌≤◌, eqb, List, [], ◌∷◌, length, get_or, take, drop, sym, refl, ap, ◌∙◌, subst, ⊎_elim, arith}
-use Rattle.std.proofs.lemmas.List.{get_or-drop, length-drop, drop-drop, drop_more, take_rest}
-use Rattle.std.proofs.lemmas.Bool.{cond-true, cond-false, eq-eqb, ne_eqb, cases_eq}
+use Rattle.std.proofs.Common.{◌≡◌, ℕ, zero, suc, ◌+◌, ◌-◌, ◌<◌, ◌≤◌, Bool, true, false, cond, eqb, ltb, ltb-false, List, [], ◌∷◌, length, get_or, take, drop, Some, None, sym, refl, ap, ◌∙◌, arith}
+use Rattle.std.specs.List.{count_by, position, position_or_len, slice_split, onto_first}
+use Rattle.std.proofs.lemmas.List.{get_or-drop, length-drop, drop-drop}
+use Rattle.std.proofs.lemmas.List.Splits.{length-slice_split}
+use Rattle.std.proofs.lemmas.Bool.{cond-true, cond-false, eq-eqb, ne_eqb}
 use Rattle.document.specs.Texts.{pieces, put_first}
 
+-- where no element passes
+pub position_none : (p : ℕ → Bool) (xs : List ℕ) → position p xs ≡ None → length xs ≤ position_or_len p xs
+position_none p xs e = ltb-false _ _ (by (ltb (position_or_len p xs) (length xs)) refl e)
+  where
+    by : (b : Bool) → ltb (position_or_len p xs) (length xs) ≡ b → cond b (Some (position_or_len p xs)) None ≡ None → ltb (position_or_len p xs) (length xs) ≡ false
+    by true s h = absurd cc
+    by false s h = s
+
 -- where b does not stand, the whole is one piece
-pieces_none : (b : ℕ) (xs : List ℕ) → ((k : ℕ) → k < length xs → get_or xs k 0 ≡ b → ⊥) → pieces b xs ≡ xs ∷ []
+pub pieces_none : (b : ℕ) (xs : List ℕ) → ((k : ℕ) → k < length xs → get_or xs k 0 ≡ b → ⊥) → pieces b xs ≡ xs ∷ []
 pieces_none b [] h = refl
 pieces_none b (x ∷ xs) h =
     cond-false (eqb x b) _ _ (ne_eqb x b (h 0 (omega arith))) ∙ ap (put_first x) (pieces_none b xs (λ k l. h (suc k) (omega arith)))
 
 -- up to where b first stands
-pieces_first : (b k : ℕ) (xs : List ℕ) → k < length xs → ((j : ℕ) → j < k → get_or xs j 0 ≡ b → ⊥) → get_or xs k 0 ≡ b
+pub pieces_first : (b k : ℕ) (xs : List ℕ) → k < length xs → ((j : ℕ) → j < k → get_or xs j 0 ≡ b → ⊥) → get_or xs k 0 ≡ b
     → pieces b xs ≡ take k xs ∷ pieces b (drop (suc k) xs)
 pieces_first b k [] l h e = absurd (omega arith)
 pieces_first b zero (x ∷ xs) l h e = cond-true (eqb x b) _ _ (eq-eqb x b e)
@@ -38,35 +48,19 @@ piece_next b xs at end low less h here =
     (get_or-drop at xs (end - at) 0 ∙ ap (λ k. get_or xs k 0) sum ∙ here)
     ∙ ap (λ r. take (end - at) (drop at xs) ∷ pieces b r) (drop-drop (suc (end - at)) at xs ∙ ap (λ k. drop k xs) next)
 
--- the first piece from a place on, last or not
-pub piece_first : (b : ℕ) (xs : List ℕ) (at end : ℕ) → at ≤ end → end ≤ length xs → Clear b xs at end → (end < length xs → get_or xs end 0 ≡ b)
-    → get_or (pieces b (drop at xs)) 0 [] ≡ take (end - at) (drop at xs)
-piece_first b xs at end low high h here =
-    ⊎_elim
-    (λ e. ap (λ ps. get_or ps 0 []) (piece_last b xs at (subst (Clear b xs at) e h)) ∙ sym (take_rest xs at) ∙ ap (λ k. take (k - at) (drop at xs)) (sym e))
-    (λ ne. let less : end < length xs = omega arith in ap (λ ps. get_or ps 0 []) (piece_next b xs at end low less h (here less)))
-    (cases_eq end (length xs))
+put_onto : (x : ℕ) (ps : List (List ℕ)) → put_first x ps ≡ onto_first x ps
+put_onto x [] = refl
+put_onto x (p ∷ ps) = refl
 
--- how many pieces begin at a place or later, one place further on
-pub pieces_more : (b : ℕ) (xs : List ℕ) (at : ℕ) → at < length xs → get_or xs at 0 ≡ b → length (pieces b (drop at xs)) ≡ suc (length (pieces b (drop (at + 1) xs)))
-pieces_more b xs at l e =
-    ap (λ ys. length (pieces b ys)) (drop_more xs at 0 l) ∙ ap length (cond-true (eqb (get_or xs at 0) b) _ _ (eq-eqb (get_or xs at 0) b e))
+-- the parts that std's `split` gives are the pieces
+pub pieces_split : (b : ℕ) (xs : List ℕ) → pieces b xs ≡ slice_split (λ y. eqb y b) xs
+pieces_split b [] = refl
+pieces_split b (x ∷ xs) =
+    ap (λ ps. cond (eqb x b) ([] ∷ ps) (put_first x ps)) (pieces_split b xs)
+    ∙ ap (λ ps. cond (eqb x b) ([] ∷ slice_split (λ y. eqb y b) xs) ps) (put_onto x (slice_split (λ y. eqb y b) xs))
 
-put_long : (x : ℕ) (ps : List (List ℕ)) → 0 < length ps → length (put_first x ps) ≡ length ps
-put_long x [] h = absurd (omega arith)
-put_long x (p ∷ ps) h = refl
+pub length_pieces : (b : ℕ) (xs : List ℕ) → length (pieces b xs) ≡ count_by (λ y. eqb y b) xs + 1
+length_pieces b xs = ap length (pieces_split b xs) ∙ length-slice_split (λ y. eqb y b) xs
 
 pub pieces_some : (b : ℕ) (xs : List ℕ) → 0 < length (pieces b xs)
-pieces_some b [] = omega arith
-pieces_some b (x ∷ xs) =
-    let some = pieces_some b xs in
-    let put = put_long x (pieces b xs) some in
-    ⊎_elim
-    (λ e. subst (λ ps. 0 < length ps) (sym (cond-true (eqb x b) ([] ∷ pieces b xs) (put_first x (pieces b xs)) (eq-eqb x b e))) (omega arith))
-    (λ ne. subst (λ ps. 0 < length ps) (sym (cond-false (eqb x b) ([] ∷ pieces b xs) (put_first x (pieces b xs)) (ne_eqb x b ne))) (omega arith))
-    (cases_eq x b)
-
-pub pieces_same : (b : ℕ) (xs : List ℕ) (at : ℕ) → at < length xs → (get_or xs at 0 ≡ b → ⊥) → length (pieces b (drop at xs)) ≡ length (pieces b (drop (at + 1) xs))
-pieces_same b xs at l ne =
-    ap (λ ys. length (pieces b ys)) (drop_more xs at 0 l) ∙ ap length (cond-false (eqb (get_or xs at 0) b) _ _ (ne_eqb (get_or xs at 0) b ne))
-    ∙ put_long (get_or xs at 0) (pieces b (drop (at + 1) xs)) (pieces_some b (drop (at + 1) xs))
+pieces_some b xs = let long = length_pieces b xs in omega arith

@@ -1,8 +1,6 @@
 -- How a line's fault is handed on, and names that are new or known.
-use Rattle.std.proofs.Common.{◌≡◌, ℕ, true, false, List, is_some, IsErrAnd, Some, None, Err, Option, Result, sym, refl, ap, ◌∙◌, subst, MatchResult}
-use Rattle.std.specs.Option as options
+use Rattle.std.proofs.Common.{◌≡◌, ℕ, List, IsErrAnd, Err, Result, sym, ap, ◌∙◌, subst, MatchResult}
 use Rattle.std.proofs.lemmas.Result.{err_from_is_err_and}
-use Rattle.std.proofs.lemmas.Bool.{both_ways}
 use Rattle.program.specs.Spellings.{Missing}
 use Rattle.document.specs.Faults.{line_fault_code, line_fault_column}
 use Rattle.document.specs.Lines.{Declarations}
@@ -16,13 +14,9 @@ refused P d bytes r f g e is h =
     let p = err_from_is_err_and r e in
     subst (λ v. MatchResult v P (λ y. FaultyByFirst d bytes (line_fault_code y) (line_fault_column y))) (sym (p.1 ∙ ap Err (p.2 ∙ is))) h
 
-pub found : (o : Option ℕ) (P : Type 0) (Q : ℕ → Type 0) → is_some o ≡ true → options.MatchOption o P Q → (i : ℕ) × Q i
-found None P Q e h = absurd (both_ways false refl e)
-found (Some i) P Q e h = (i, h)
-
-pub not_found : (o : Option ℕ) (P : Type 0) (Q : ℕ → Type 0) → is_some o ≡ false → options.MatchOption o P Q → P
-not_found None P Q e h = h
-not_found (Some i) P Q e h = absurd (both_ways true e refl)
+-- what is said of names and bytes holds of those that they are
+pub at_both : (P : List (List ℕ) → List ℕ → Type 0) {ns ms : List (List ℕ)} {a b : List ℕ} → ns ≡ ms → a ≡ b → P ns a → P ms b
+at_both P {ns = ns} {b = b} e f h = subst (λ v. P v b) e (subst (P ns) f h)
 
 -- a name is not both new and known
 pub not_both : (names : List (List ℕ)) (n : List ℕ) → Missing names n → KnownName names n → ⊥

@@ -71,8 +71,11 @@ at_form Until fs e f = ap (λ w. by_word (get_or w 3 0) fs) e ∙ ap (λ w. by_k
 
 -- a line of which only one reading is left, and that one fails, is misshapen
 module _ (d : Declarations) (bytes : List ℕ) (x : Line) (is : reading (fields bytes) ≡ x) where
+  pub wrong_line : (ReadsAs bytes x → ⊥) → FaultyByFirst d bytes 2 0
+  wrong_line un = shape (λ y r. un (subst (ReadsAs bytes) (only bytes y r ∙ is) r))
+
   pub wrong_count : (length (fields bytes) ≡ length (shown x) → ⊥) → FaultyByFirst d bytes 2 0
-  wrong_count ne = shape (λ y r. ne (ap length (r.0 ∙ ap shown (only bytes y r ∙ is))))
+  wrong_count ne = wrong_line (λ r. ne (ap length r.0))
 
   pub wrong_name : (AllByRecursion Named (named_fields x) → ⊥) → FaultyByFirst d bytes 2 0
-  wrong_name un = shape (λ y r. un (subst (λ z. AllByRecursion Named (named_fields z)) (only bytes y r ∙ is) r.1))
+  wrong_name un = wrong_line (λ r. un r.1)

@@ -1,7 +1,8 @@
 -- Form lines by number.
-use Rattle.std.specs.Prelude.{ℕ, ◌*◌, ◌<◌, Bool, true, false, ◌&&◌, List, [], nat_lt, slice_index_or}
+use Rattle.std.specs.Prelude.{ℕ, ◌*◌, ◌<◌, Bool, true, false, ◌&&◌, List, [], map, take, nat_lt, slice_index_or}
 use Rattle.program.specs.declared.row.Row.{Row}
 use Rattle.program.specs.RowStates.{states_in}
+use Rattle.document.specs.declared.declared.FormLine.{FormLine}
 use Rattle.document.specs.declared.form.Form.{Form}
 use Rattle.document.specs.declared.form.Form.TheVariants.{True, Prop, Not, And, Or, Next, Until}
 
@@ -25,8 +26,19 @@ earlier props acts progs e (Or f g) = nat_lt f e && nat_lt g e
 earlier props acts progs e (Next a f) = nat_lt a acts && nat_lt f e
 earlier props acts progs e (Until f p g) = nat_lt f e && (nat_lt p progs && nat_lt g e)
 
-abbrev pub form_in : List Form → ℕ → Form
-form_in lines e = slice_index_or lines e True
+abbrev pub blank_line : FormLine
+blank_line = record { form = True; base = 0 }
+
+abbrev pub form_in : List FormLine → ℕ → Form
+form_in lines e = (slice_index_or lines e blank_line).form
+
+-- the number of a form's first claim
+abbrev pub base_in : List FormLine → ℕ → ℕ
+base_in lines e = (slice_index_or lines e blank_line).base
+
+-- the first of these forms, so many
+abbrev pub forms_of : ℕ → List FormLine → List Form
+forms_of count lines = map (λ l. l.form) (take count lines)
 
 abbrev pub blank_row : Row
 blank_row = record { names = 0; actions = []; nullable = false; first = 0; last = 0; follow = [] }

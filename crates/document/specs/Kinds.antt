@@ -1,6 +1,8 @@
 -- The words that lines begin with, and the kinds of forms.
-use Rattle.std.specs.Prelude.{ℕ, List, [], codes, slice_index_or}
+use Rattle.std.specs.Prelude.{◌≡◌, ℕ, List, [], Result, MatchResult, codes, slice_index_or, ◌≢◌}
 use Rattle.document.specs.Lines.{Line, true_form, prop_form, not_form, and_form, or_form, next_form, until_form}
+use Rattle.document.specs.declared.fault.LineFault.{LineFault}
+use Rattle.document.specs.declared.fault.LineFault.TheVariants.{Shape}
 use Rattle.document.specs.declared.words.Word.{Word}
 use Rattle.document.specs.declared.words.Word.TheVariants as word
 use Rattle.document.specs.declared.words.Word.TheVariants.{Act, Prog, Form, Goal}
@@ -15,6 +17,10 @@ first_word Prog = codes "prog"
 first_word Form = codes "form"
 first_word Goal = codes "goal"
 
+-- what a line begins with, or none of the five words
+abbrev pub ReadsWord : List ℕ → Result Word LineFault → Type 0
+ReadsWord bytes r = MatchResult r (λ k. bytes ≡ first_word k) (λ f. (f ≡ Shape) × ((k : Word) → bytes ≢ first_word k))
+
 -- the word of each kind of form
 abbrev pub word_of : Kind → List ℕ
 word_of True = codes "true"
@@ -24,6 +30,10 @@ word_of And = codes "and"
 word_of Or = codes "or"
 word_of Next = codes "next"
 word_of Until = codes "until"
+
+-- the kind that the bytes name, or none of the seven
+abbrev pub ReadsKind : List ℕ → Result Kind LineFault → Type 0
+ReadsKind bytes r = MatchResult r (λ k. bytes ≡ word_of k) (λ f. (f ≡ Shape) × ((k : Kind) → bytes ≢ word_of k))
 
 abbrev pub operands_of : Kind → ℕ
 operands_of True = 0

@@ -14,5 +14,6 @@ pub mod NameLists
 pub mod Outcomes
 pub mod Represents
 pub mod Spelled
+pub mod TextLines
 pub mod Texts
 pub mod Told

@@ -1,6 +1,6 @@
 -- What loading a text gives, and each line of it.
-use Rattle.std.specs.Prelude.{◌≡◌, ℕ, Bool, true, false, List, Err, Result, MatchResult}
-use Rattle.std.specs.Option as options
+use Rattle.std.specs.Prelude.{◌≡◌, ℕ, List, Err, Result, MatchResult}
+use denote.Ref.{Bor}
 use Rattle.document.specs.Documents.{WellFormed}
 use Rattle.document.specs.Faults.{line_fault_code, line_fault_column, load_fault_code, load_fault_line, load_fault_column}
 use Rattle.document.specs.Holds.{Holds}
@@ -10,23 +10,26 @@ use Rattle.document.specs.Outcomes.{taken, refused}
 use Rattle.document.specs.Coming.{LoadsByFirst}
 use Rattle.document.specs.Represents.{Represents}
 use Rattle.document.specs.Told.{Declares, Aims}
+use Rattle.document.specs.declared.declared.Declared.{Declared}
 use Rattle.document.specs.declared.document.Document.{Document}
 use Rattle.document.specs.declared.fault.LineFault.{LineFault}
-use Rattle.document.specs.declared.fault.LineFault.TheVariants.{Shape, Order}
+use Rattle.document.specs.declared.fault.LineFault.TheVariants.{Order}
 use Rattle.document.specs.declared.fault.LoadFault.{LoadFault}
 use Rattle.document.specs.declared.load.Progress.{Progress}
+use Rattle.document.specs.declared.load.Progress.TheVariants.{Declaring, Done}
 
 -- how far the lines have come after one that is fine
-abbrev pub Goes_on : Progress → Declarations → List ℕ → Progress → Type 0
-Goes_on progress d bytes next = options.MatchOption next.document (Declares d bytes next.declared) (Aims progress.declared d bytes)
+abbrev pub Goes_on : Declared → Declarations → List ℕ → Progress → Type 0
+Goes_on held d bytes (Declaring next) = Declares d bytes next
+Goes_on held d bytes (Done doc) = Aims held d bytes doc
 
 -- one line more: none may follow the goal, it ends with a line feed, and it is fine or refused with its first fault
-abbrev pub LineRead : Progress → List ℕ → Bool → Result Progress LineFault → Type 0
-LineRead progress bytes whole r =
-    options.MatchOption progress.document
-    ((whole ≡ false → r ≡ Err Shape)
-    × (whole ≡ true → (d : Declarations) → Holds progress.declared d → MatchResult r (Goes_on progress d bytes) (λ f. FaultyByFirst d bytes (line_fault_code f) (line_fault_column f))))
-    (λ _. r ≡ Err Order)
+abbrev pub LineRead : Progress → Result (Bor (List ℕ)) LineFault → Result Progress LineFault → Type 0
+LineRead (Declaring held) line r =
+    MatchResult line
+    (λ bytes. (d : Declarations) → Holds held d → MatchResult r (Goes_on held d bytes.now) (λ f. FaultyByFirst d bytes.now (line_fault_code f) (line_fault_column f)))
+    (λ f. r ≡ Err f)
+LineRead (Done doc) line r = r ≡ Err Order
 
 -- the document in memory is the one that the text spells
 pub record Taken (text : List ℕ) (doc : Document) : Type 0 where

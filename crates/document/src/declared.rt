@@ -1,7 +1,7 @@
 // What the lines of a document declare: names by kind, the rows of programs, and the forms.
-ghost use Rattle.std.specs.Prelude.{◌≡◌, ℕ, ◌+◌, ◌<◌, ◌≤◌, true, [], ◌∷◌, ◌++◌, length, slice_index, slice_set};
+ghost use Rattle.std.specs.Prelude.{◌≡◌, ℕ, ◌+◌, ◌<◌, ◌≤◌, true, [], ◌∷◌, ◌++◌, length, slice_set};
 ghost use Rattle.program.specs.Names.{spelled};
-ghost use Rattle.document.specs.Forms.{Earlier, earlier, form_in, row_at, weight_in, Known};
+ghost use Rattle.document.specs.Forms.{Earlier, earlier, form_in, base_in, row_at, weight_in, Known};
 ghost use Rattle.document.specs.Kept.{names_of};
 
 use crate::form::Form;
@@ -9,24 +9,32 @@ use crate::names::Names;
 use program::name::Name;
 use program::row::Row;
 
-// Form e speaks of earlier forms and of what is declared, and its claims are numbered from `bases[e]` on, below the weight.
+// A form, and the number of its first claim.
+#[derive(Clone, Copy, PartialEq, Eq, Debug)]
+pub struct FormLine {
+    form: Form,
+    base: u16,
+}
+
+// Form e speaks of earlier forms and of what is declared, and its claims are numbered from its base on, below the weight.
 #[derive(Clone, Copy)]
 pub struct Declared {
     acts: Names,
     props: Names,
+    // Kept: rows and form lines stand apart from their names: names of all four kinds are one type of 64 places, and are
+    // looked up alone.
     progs: Names,
     rows: [Row; 16],
     forms: Names,
-    lines: [Form; 64],
-    bases: [u16; 64],
+    lines: [FormLine; 64],
     weight: u16,
     ghost acts_few: { acts.count ≤ 16 },
     ghost props_few: { props.count ≤ 16 },
     ghost progs_few: { progs.count ≤ 16 },
-    ghost room: { (length rows ≡ 16) × (length lines ≡ 64) × (length bases ≡ 64) },
+    ghost room: { (length rows ≡ 16) × (length lines ≡ 64) },
     ghost light: { weight ≤ 256 },
     ghost ordered: { (e : ℕ) → e < forms.count → earlier props.count acts.count progs.count e (form_in lines e) ≡ true },
-    ghost numbered: { (e : ℕ) → e < forms.count → slice_index bases e + weight_in rows (form_in lines e) ≤ weight },
+    ghost numbered: { (e : ℕ) → e < forms.count → base_in lines e + weight_in rows (form_in lines e) ≤ weight },
 }
 
 impl Declared {
@@ -41,38 +49,40 @@ impl Declared {
             progs: Names::new(),
             rows: [Row::blank(); 16],
             forms: Names::new(),
-            lines: [Form::True; 64],
-            bases: [0; 64],
+            lines: [FormLine {
+                form: Form::True,
+                base: 0,
+            }; 64],
             weight: 0,
         }
     }
 
-    pub fn acts(&self) -> Names
-        ensures is { result ≡ self.now.acts }
-        ensures few { result.count ≤ 16 }
+    pub fn acts(&self) -> &Names
+        ensures is { result.now ≡ self.now.acts }
+        ensures few { result.now.count ≤ 16 }
     {
-        self.acts
+        &self.acts
     }
 
-    pub fn props(&self) -> Names
-        ensures is { result ≡ self.now.props }
-        ensures few { result.count ≤ 16 }
+    pub fn props(&self) -> &Names
+        ensures is { result.now ≡ self.now.props }
+        ensures few { result.now.count ≤ 16 }
     {
-        self.props
+        &self.props
     }
 
-    pub fn progs(&self) -> Names
-        ensures is { result ≡ self.now.progs }
-        ensures few { result.count ≤ 16 }
+    pub fn progs(&self) -> &Names
+        ensures is { result.now ≡ self.now.progs }
+        ensures few { result.now.count ≤ 16 }
     {
-        self.progs
+        &self.progs
     }
 
-    pub fn forms(&self) -> Names
-        ensures is { result ≡ self.now.forms }
-        ensures few { result.count ≤ 64 }
+    pub fn forms(&self) -> &Names
+        ensures is { result.now ≡ self.now.forms }
+        ensures few { result.now.count ≤ 64 }
     {
-        self.forms
+        &self.forms
     }
 
     pub fn weight(&self) -> u16
@@ -88,7 +98,7 @@ impl Declared {
         ensures earlier { Earlier 16 16 16 e result }
     {
         if e < self.forms.count() {
-            self.lines[e]
+            self.lines[e].form
         } else {
             Form::True
         }
@@ -117,72 +127,68 @@ impl Declared {
     // The number of a form's first claim.
     pub fn base(&self, e: usize) -> u16
         ensures within { e < self.now.forms.count → result + weight_in self.now.rows (form_in self.now.lines e) ≤ 256 }
-        ensures is { e < 64 → result ≡ slice_index self.now.bases e }
+        ensures is { e < 64 → result ≡ base_in self.now.lines e }
     {
-        if e < 64 { self.bases[e] } else { 0 }
+        if e < 64 { self.lines[e].base } else { 0 }
     }
 
     // With one action more.
-    pub fn with_act(self, name: Name) -> Declared
+    // Kept: this and `with_prop` differ in the field alone; with the field as a parameter each clause would have to say for
+    // both kinds which names grow.
+    pub fn with_act(mut self, name: Name) -> Declared
         requires { self.acts.count < 16 }
         ensures count { result.acts.count ≡ self.acts.count + 1 }
         ensures acts { names_of result.acts ≡ names_of self.acts ++ spelled name ∷ [] }
-        ensures rest { (result.props ≡ self.props) × (result.progs ≡ self.progs) × (result.rows ≡ self.rows) × (result.forms ≡ self.forms) × (result.lines ≡ self.lines) × (result.bases ≡ self.bases) × (result.weight ≡ self.weight) }
+        ensures rest { (result.props ≡ self.props) × (result.progs ≡ self.progs) × (result.rows ≡ self.rows) × (result.forms ≡ self.forms) × (result.lines ≡ self.lines) × (result.weight ≡ self.weight) }
     {
-        let mut next = self;
-        let acts = self.acts.with(name);
-        next.acts = acts;
-        next
+        self.acts = self.acts.with(name);
+        self
     }
 
     // With one proposition more.
-    pub fn with_prop(self, name: Name) -> Declared
+    pub fn with_prop(mut self, name: Name) -> Declared
         requires { self.props.count < 16 }
         ensures count { result.props.count ≡ self.props.count + 1 }
         ensures props { names_of result.props ≡ names_of self.props ++ spelled name ∷ [] }
-        ensures rest { (result.acts ≡ self.acts) × (result.progs ≡ self.progs) × (result.rows ≡ self.rows) × (result.forms ≡ self.forms) × (result.lines ≡ self.lines) × (result.bases ≡ self.bases) × (result.weight ≡ self.weight) }
+        ensures rest { (result.acts ≡ self.acts) × (result.progs ≡ self.progs) × (result.rows ≡ self.rows) × (result.forms ≡ self.forms) × (result.lines ≡ self.lines) × (result.weight ≡ self.weight) }
     {
-        let mut next = self;
-        let props = self.props.with(name);
-        next.props = props;
-        next
+        self.props = self.props.with(name);
+        self
     }
 
     // With one program more.
-    pub fn with_prog(self, name: Name, row: Row) -> Declared
+    pub fn with_prog(mut self, name: Name, row: Row) -> Declared
         requires { self.progs.count < 16 }
         ensures count { result.progs.count ≡ self.progs.count + 1 }
         ensures progs { names_of result.progs ≡ names_of self.progs ++ spelled name ∷ [] }
         ensures row { result.rows ≡ slice_set self.rows self.progs.count row }
-        ensures rest { (result.acts ≡ self.acts) × (result.props ≡ self.props) × (result.forms ≡ self.forms) × (result.lines ≡ self.lines) × (result.bases ≡ self.bases) × (result.weight ≡ self.weight) }
+        ensures rest { (result.acts ≡ self.acts) × (result.props ≡ self.props) × (result.forms ≡ self.forms) × (result.lines ≡ self.lines) × (result.weight ≡ self.weight) }
     {
-        let mut next = self;
-        let progs = self.progs.with(name);
-        next.rows[self.progs.count()] = row;
-        next.progs = progs;
-        next
+        let p = self.progs.count();
+        self.rows[p] = row;
+        self.progs = self.progs.with(name);
+        self
     }
 
     // With one form more, whose claims are numbered after all others.
-    pub fn with_form(self, name: Name, form: Form) -> Declared
+    pub fn with_form(mut self, name: Name, form: Form) -> Declared
         requires room { self.forms.count < 64 }
         requires light { self.weight + weight_in self.rows form ≤ 256 }
         requires known { Earlier self.props.count self.acts.count self.progs.count self.forms.count form }
         ensures count { result.forms.count ≡ self.forms.count + 1 }
         ensures forms { names_of result.forms ≡ names_of self.forms ++ spelled name ∷ [] }
-        ensures line { result.lines ≡ slice_set self.lines self.forms.count form }
-        ensures base { result.bases ≡ slice_set self.bases self.forms.count self.weight }
+        ensures line { result.lines ≡ slice_set self.lines self.forms.count (record { form = form; base = self.weight }) }
         ensures weight { result.weight ≡ self.weight + weight_in self.rows form }
         ensures rest { (result.acts ≡ self.acts) × (result.props ≡ self.props) × (result.progs ≡ self.progs) × (result.rows ≡ self.rows) }
     {
         let e = self.forms.count();
-        let forms = self.forms.with(name);
         let weight = self.weight + self.weight_of(form);
-        let mut next = self;
-        next.lines[e] = form;
-        next.bases[e] = self.weight;
-        next.forms = forms;
-        next.weight = weight;
-        next
+        self.lines[e] = FormLine {
+            form,
+            base: self.weight,
+        };
+        self.forms = self.forms.with(name);
+        self.weight = weight;
+        self
     }
 }

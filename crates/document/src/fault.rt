@@ -50,6 +50,7 @@ impl From<LineAt> for LoadFault {
     }
 }
 
+// Kept: the numbers of the codes, and 0 for no line and no column, are what programs print.
 fn program_code(fault: ProgramFault) -> u8
     ensures { result ≡ program_fault_code fault }
 {
@@ -63,9 +64,10 @@ fn program_code(fault: ProgramFault) -> u8
 fn program_column(fault: ProgramFault) -> usize
     ensures { result ≡ program_fault_column fault }
 {
-    match fault {
-        ProgramFault::Malformed { column } => column,
-        _ => 0,
+    if let ProgramFault::Malformed { column } = fault {
+        column
+    } else {
+        0
     }
 }
 
@@ -86,9 +88,10 @@ impl LineFault {
     pub fn column(self) -> usize
         ensures { result ≡ line_fault_column self }
     {
-        match self {
-            LineFault::Program(fault) => program_column(fault),
-            _ => 0,
+        if let LineFault::Program(fault) = self {
+            program_column(fault)
+        } else {
+            0
         }
     }
 }

@@ -1,4 +1,5 @@
 // A form line: its operands are numbers of actions, propositions, programs and earlier forms.
+// Kept: operands are numbers and no `Box`: a document allocates nothing and is copied as a whole.
 #[derive(Clone, Copy, PartialEq, Eq, Debug)]
 pub enum Form {
     True,

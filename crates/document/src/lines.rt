@@ -1,9 +1,10 @@
 // The lines of a document by kind. Faults are tried in the order of their codes.
-ghost use Rattle.std.specs.Prelude.{◌≡◌, ℕ, ◌+◌, ◌<◌, ◌≤◌, [], length, IfOk, codes, Decides, MatchResult, OnOk, ◌≢◌, slice_index_or};
+ghost use Rattle.std.specs.Prelude.{◌≡◌, ℕ, ◌+◌, ◌<◌, ◌≤◌, [], length, IfOk, codes, Decides, MatchResult, ◌≢◌, slice_index_or};
 ghost use Rattle.program.specs.Names.{Named, spelled};
 ghost use Rattle.program.specs.Spellings.{Missing, NumberIn};
 ghost use Rattle.document.specs.Kept.{names_of};
-ghost use Rattle.document.specs.Told.{word_in, NewBelow, Told, FormTold, GoalTold};
+ghost use Rattle.document.specs.Declaring.{KnownName};
+ghost use Rattle.document.specs.Told.{word_in, NameTaken, NameRefused, Headed, Unheaded, ProgHeaded, ProgUnheaded, Told, FormTold, GoalTold};
 ghost use Rattle.document.specs.Texts.{fields};
 ghost use Rattle.document.specs.declared.fault.LineFault.TheVariants.{Shape, Naming, Limit};
 ghost use Rattle.document.specs.Forms.{Earlier};
@@ -24,10 +25,7 @@ use program::read::read;
 fn name_of(text: &[u8]) -> Result<Name, LineFault>
     ensures { MatchResult result (λ n. Named text.now × (spelled n ≡ text.now)) (λ f. (f ≡ Shape) × (Named text.now → ⊥)) }
 {
-    match Name::read(text) {
-        Some(name) => Ok(name),
-        None => Err(LineFault::Shape),
-    }
+    Name::read(text).ok_or(LineFault::Shape)
 }
 
 // The number of a name that is declared.
@@ -35,20 +33,24 @@ fn number_of(names: &Names, text: &[u8]) -> Result<u8, LineFault>
     ensures within { IfOk result (λ i. i < names.now.count) }
     ensures is { MatchResult result (λ i. NumberIn (names_of names.now) text.now i) (λ f. (f ≡ Naming) × Missing (names_of names.now) text.now) }
 {
-    match names.find(text) {
-        Some(i) => Ok(i as u8),
-        None => Err(LineFault::Naming),
-    }
+    let number = names.find(text).ok_or(LineFault::Naming)?;
+    Ok(number as u8)
 }
 
-// Refuses a name that is declared already, then one above the limit of its kind.
-fn new_below(names: &Names, text: &[u8], limit: usize) -> Result<(), LineFault>
-    ensures below { OnOk result (names.now.count < limit) }
-    ensures is { MatchResult result (λ _. Missing (names_of names.now) text.now) (λ f. NewBelow (names_of names.now) names.now.count text.now limit f) }
+// Refuses a name that is declared already.
+fn unused(names: &Names, text: &[u8]) -> Result<(), LineFault>
+    ensures { MatchResult result (λ _. Missing (names_of names.now) text.now) (λ f. (f ≡ Naming) × KnownName (names_of names.now) text.now) }
 {
     if names.find(text).is_some() {
         return Err(LineFault::Naming);
     }
+    Ok(())
+}
+
+// Refuses one name more than a kind may have.
+fn room(names: &Names, limit: usize) -> Result<(), LineFault>
+    ensures { MatchResult result (λ _. names.now.count < limit) (λ f. (f ≡ Limit) × (limit ≤ names.now.count)) }
+{
     if names.count() >= limit {
         return Err(LineFault::Limit);
     }
@@ -65,14 +67,24 @@ pub fn counted(line: &[u8], count: usize) -> Result<(), LineFault>
     Ok(())
 }
 
-// `act NAME`
-fn act_line(declared: Declared, line: &[u8]) -> Result<Declared, LineFault>
-    ensures { word_in line.now ≡ codes "act" → Told declared line.now result }
+// The name that a line of two fields declares: it is new in its kind, and below the limit.
+fn new_name(names: &Names, line: &[u8], limit: usize) -> Result<Name, LineFault>
+    ensures { MatchResult result (NameTaken (names_of names.now) names.now.count limit line.now) (NameRefused (names_of names.now) names.now.count limit line.now) }
 {
     counted(line, 2)?;
     let text = field(line, 1);
     let name = name_of(text)?;
-    new_below(&declared.acts(), text, 16)?;
+    unused(names, text)?;
+    room(names, limit)?;
+    Ok(name)
+}
+
+// `act NAME`
+// Kept: this and `prop_line` differ in the kind alone, as `with_act` and `with_prop` do.
+fn act_line(declared: Declared, line: &[u8]) -> Result<Declared, LineFault>
+    ensures { word_in line.now ≡ codes "act" → Told declared line.now result }
+{
+    let name = new_name(declared.acts(), line, 16)?;
     Ok(declared.with_act(name))
 }
 
@@ -80,33 +92,34 @@ fn act_line(declared: Declared, line: &[u8]) -> Result<Declared, LineFault>
 fn prop_line(declared: Declared, line: &[u8]) -> Result<Declared, LineFault>
     ensures { word_in line.now ≡ codes "prop" → Told declared line.now result }
 {
-    counted(line, 2)?;
-    let text = field(line, 1);
-    let name = name_of(text)?;
-    new_below(&declared.props(), text, 16)?;
+    let name = new_name(declared.props(), line, 16)?;
     Ok(declared.with_prop(name))
+}
+
+// The name of a program line, whose program is well-formed.
+fn prog_head(line: &[u8]) -> Result<Name, LineFault>
+    ensures { MatchResult result (λ name. ProgHeaded line.now × (spelled name ≡ slice_index_or (fields line.now) 1 [])) (ProgUnheaded line.now) }
+{
+    counted(line, 3)?;
+    let name = name_of(field(line, 1))?;
+    check(field(line, 2))?;
+    Ok(name)
 }
 
 // `prog NAME PROGRAM`
 fn prog_line(declared: Declared, line: &[u8]) -> Result<Declared, LineFault>
     ensures { word_in line.now ≡ codes "prog" → Told declared line.now result }
 {
-    counted(line, 3)?;
-    let text = field(line, 1);
-    let name = name_of(text)?;
-    let program = field(line, 2);
-    check(program)?;
-    let acts = declared.acts();
-    let progs = declared.progs();
-    if progs.find(text).is_some() {
-        return Err(LineFault::Naming);
-    }
-    let row = read(program, acts.listed())?;
-    new_below(&progs, text, 16)?;
+    let name = prog_head(line)?;
+    unused(declared.progs(), name.as_bytes())?;
+    let row = read(field(line, 2), declared.acts().listed())?;
+    room(declared.progs(), 16)?;
     Ok(declared.with_prog(name, row))
 }
 
 // Whether each operand of a form line is a well-formed name.
+// Kept: a `for` over numbers and no `all`. Tried: the clause of `is_name` comes through the closure only by an answer that is
+// longer than this loop's invariant.
 fn operands_named(line: &[u8], operands: usize) -> bool
     requires { operands ≤ 3 }
     ensures { Decides result ((k : ℕ) → k < operands → Named (slice_index_or (fields line.now) (3 + k) [])) }
@@ -117,6 +130,16 @@ fn operands_named(line: &[u8], operands: usize) -> bool
         }
     }
     true
+}
+
+// The numbers of the two forms that a form line of two operands names.
+fn two_forms(forms: &Names, line: &[u8]) -> Result<(u8, u8), LineFault>
+    ensures within { IfOk result (λ both. (both.0 < forms.now.count) × (both.1 < forms.now.count)) }
+    ensures is { MatchResult result (λ both. NumberIn (names_of forms.now) (slice_index_or (fields line.now) 3 []) both.0 × NumberIn (names_of forms.now) (slice_index_or (fields line.now) 4 []) both.1) (λ f. (f ≡ Naming) × (KnownName (names_of forms.now) (slice_index_or (fields line.now) 3 []) × KnownName (names_of forms.now) (slice_index_or (fields line.now) 4 []) → ⊥)) }
+{
+    let f = number_of(forms, field(line, 3))?;
+    let g = number_of(forms, field(line, 4))?;
+    Ok((f, g))
 }
 
 // The form of a kind, with the numbers of its operands.
@@ -130,51 +153,51 @@ fn form_of(declared: &Declared, kind: Kind, line: &[u8]) -> Result<Form, LineFau
     let forms = declared.forms();
     match kind {
         Kind::True => Ok(Form::True),
-        Kind::Prop => Ok(Form::Prop(number_of(&props, field(line, 3))?)),
-        Kind::Not => Ok(Form::Not(number_of(&forms, field(line, 3))?)),
+        Kind::Prop => Ok(Form::Prop(number_of(props, field(line, 3))?)),
+        Kind::Not => Ok(Form::Not(number_of(forms, field(line, 3))?)),
         Kind::And => {
-            let f = number_of(&forms, field(line, 3))?;
-            let g = number_of(&forms, field(line, 4))?;
+            let (f, g) = two_forms(forms, line)?;
             Ok(Form::And(f, g))
         }
         Kind::Or => {
-            let f = number_of(&forms, field(line, 3))?;
-            let g = number_of(&forms, field(line, 4))?;
+            let (f, g) = two_forms(forms, line)?;
             Ok(Form::Or(f, g))
         }
         Kind::Next => {
-            let a = number_of(&acts, field(line, 3))?;
-            let f = number_of(&forms, field(line, 4))?;
+            let a = number_of(acts, field(line, 3))?;
+            let f = number_of(forms, field(line, 4))?;
             Ok(Form::Next(a, f))
         }
         Kind::Until => {
-            let f = number_of(&forms, field(line, 3))?;
-            let p = number_of(&progs, field(line, 4))?;
-            let g = number_of(&forms, field(line, 5))?;
+            let f = number_of(forms, field(line, 3))?;
+            let p = number_of(progs, field(line, 4))?;
+            let g = number_of(forms, field(line, 5))?;
             Ok(Form::Until(f, p, g))
         }
     }
+}
+
+// The kind and the name of a form line, which has the fields of its kind.
+fn form_head(line: &[u8]) -> Result<(Kind, Name), LineFault>
+    ensures { MatchResult result (λ head. Headed head.0 line.now × (spelled head.1 ≡ slice_index_or (fields line.now) 1 [])) (λ f. (f ≡ Shape) × Unheaded line.now) }
+{
+    let kind = Kind::try_from(field(line, 2))?;
+    counted(line, 3 + kind.operands())?;
+    let name = name_of(field(line, 1))?;
+    if !operands_named(line, kind.operands()) {
+        return Err(LineFault::Shape);
+    }
+    Ok((kind, name))
 }
 
 // `form NAME KIND OPERANDS`
 fn form_line(declared: Declared, line: &[u8]) -> Result<Declared, LineFault>
     ensures { word_in line.now ≡ codes "form" → Told declared line.now result }
 {
-    let text = field(line, 1);
-    let Some(kind) = Kind::read(field(line, 2)) else {
-        return Err(LineFault::Shape);
-    };
-    counted(line, 3 + kind.operands())?;
-    let name = name_of(text)?;
-    if !operands_named(line, kind.operands()) {
-        return Err(LineFault::Shape);
-    }
-    let forms = declared.forms();
-    if forms.find(text).is_some() {
-        return Err(LineFault::Naming);
-    }
+    let (kind, name) = form_head(line)?;
+    unused(declared.forms(), name.as_bytes())?;
     let form = form_of(&declared, kind, line)?;
-    new_below(&forms, text, 64)?;
+    room(declared.forms(), 64)?;
     if declared.weight() + declared.weight_of(form) > 256 {
         return Err(LineFault::Limit);
     }
@@ -190,7 +213,7 @@ pub fn goal_line(declared: Declared, line: &[u8]) -> Result<Document, LineFault>
     if !is_name(text) {
         return Err(LineFault::Shape);
     }
-    let goal = number_of(&declared.forms(), text)?;
+    let goal = number_of(declared.forms(), text)?;
     if declared.acts().count() == 0 {
         return Err(LineFault::Order);
     }
@@ -198,13 +221,11 @@ pub fn goal_line(declared: Declared, line: &[u8]) -> Result<Document, LineFault>
 }
 
 // A line that declares something.
+// Kept: a `match` over the words that a line begins with; each kind of line has a reader of its own.
 pub fn declaration(declared: Declared, line: &[u8]) -> Result<Declared, LineFault>
     ensures { (word_in line.now ≢ codes "goal") → Told declared line.now result }
 {
-    let Some(word) = Word::read(field(line, 0)) else {
-        return Err(LineFault::Shape);
-    };
-    match word {
+    match Word::try_from(field(line, 0))? {
         Word::Act => act_line(declared, line),
         Word::Prop => prop_line(declared, line),
         Word::Prog => prog_line(declared, line),
@@ -217,11 +238,5 @@ pub fn declaration(declared: Declared, line: &[u8]) -> Result<Declared, LineFaul
 pub fn is_goal(line: &[u8]) -> bool
     ensures { Decides result (word_in line.now ≡ codes "goal") }
 {
-    let Some(word) = Word::read(field(line, 0)) else {
-        return false;
-    };
-    match word {
-        Word::Goal => true,
-        _ => false,
-    }
+    matches!(Word::try_from(field(line, 0)), Ok(Word::Goal))
 }

@@ -6,6 +6,7 @@ ghost use Rattle.document.specs.NameLists.{spellings};
 
 use program::name::{Name, find};
 
+// Kept: an array and a count and no `Vec`, since a document is fixed memory that is copied.
 #[derive(Clone, Copy)]
 pub struct Names {
     list: [Name; 64],
@@ -38,7 +39,7 @@ impl Names {
         ensures count { length result.now ≡ self.now.count }
         ensures is { result.now ≡ take self.now.count self.now.list }
     {
-        &self.list[0..self.count]
+        &self.list[..self.count]
     }
 
     // The number of the name that the field spells.
@@ -46,18 +47,14 @@ impl Names {
         ensures within { IfSome result (λ i. i < self.now.count) }
         ensures is { MatchOption result (Missing (spellings self.now.count self.now.list) field.now) (λ i. NumberIn (spellings self.now.count self.now.list) field.now i) }
     {
-        find(&self.list[0..self.count], field)
+        find(self.listed(), field)
     }
 
     // The name of a number below the count.
     pub fn at(&self, i: usize) -> Name
         ensures { i < self.now.count → spelled result ≡ slice_index_or (spellings self.now.count self.now.list) i [] }
     {
-        if i < self.count {
-            self.list[i]
-        } else {
-            Name::blank()
-        }
+        self.listed().get(i).copied().unwrap_or(Name::blank())
     }
 
     // With one name more.

@@ -1,13 +1,13 @@
 // Refusals at their boundaries, on both sides.
+ghost use Rattle.std.specs.Prelude.{◌≤◌};
+
 use crate::load::load;
 use std::process::Abort;
 use std::test::Fail;
 
 fn taken(text: &[u8]) -> Result<(), Fail> {
-    match load(text) {
-        Ok(_) => Ok(()),
-        Err(_) => Err(Fail::new("refused")),
-    }
+    load(text)?;
+    Ok(())
 }
 
 fn refused(rt: &impl Abort, text: &[u8], code: u8, line: usize) -> Result<(), Fail> {
@@ -21,11 +21,13 @@ fn refused(rt: &impl Abort, text: &[u8], code: u8, line: usize) -> Result<(), Fa
     }
 }
 
-// A text that is put together.
+// A text that is put together, as far as there is room.
+// Kept: a buffer and a length, since nothing in this crate allocates.
 #[derive(Clone, Copy)]
 struct Page {
     bytes: [u8; 1024],
     len: usize,
+    ghost within: { len ≤ 1024 },
 }
 
 impl Page {
@@ -37,12 +39,10 @@ impl Page {
     }
 
     fn put(&mut self, text: &[u8]) {
-        for b in text {
-            if self.len < 1024 {
-                self.bytes[self.len] = *b;
-                self.len += 1;
-            }
+        for (place, b) in self.bytes[self.len..].iter_mut().zip(text) {
+            *place = *b;
         }
+        self.len += text.len().min(1024 - self.len);
     }
 
     // Lines that declare so many names, each two letters between `before` and `after`.
@@ -55,11 +55,7 @@ impl Page {
     }
 
     fn text(&self) -> &[u8] {
-        if self.len < 1024 {
-            &self.bytes[..self.len]
-        } else {
-            &self.bytes
-        }
+        &self.bytes[..self.len]
     }
 }
 

@@ -1,9 +1,11 @@
 // The words of a document: what a line begins with, and the kinds of forms.
-ghost use Rattle.std.specs.Prelude.{◌≡◌, ◌≤◌, MatchOption, ◌≢◌};
-ghost use Rattle.document.specs.Kinds.{first_word, word_of, operands_of};
+ghost use Rattle.std.specs.Prelude.{◌≡◌, ◌≤◌};
+ghost use Rattle.document.specs.Kinds.{ReadsWord, ReadsKind, operands_of};
+
+use crate::fault::LineFault;
 
 // What a line begins with.
-#[derive(Clone, Copy, PartialEq, Eq)]
+#[derive(Clone, Copy, PartialEq, Eq, Debug)]
 pub enum Word {
     Act,
     Prop,
@@ -12,23 +14,25 @@ pub enum Word {
     Goal,
 }
 
-impl Word {
-    pub fn read(word: &[u8]) -> Option<Word>
-        ensures { MatchOption result ((k : Word) → word.now ≢ first_word k) (λ k. word.now ≡ first_word k) }
-    {
+impl TryFrom<&[u8]> for Word {
+    type Error = LineFault;
+
+    ghost try_from_gives = { λ word r. ReadsWord word.now r };
+
+    fn try_from(word: &[u8]) -> Result<Word, LineFault> {
         match word {
-            b"act" => Some(Word::Act),
-            b"prop" => Some(Word::Prop),
-            b"prog" => Some(Word::Prog),
-            b"form" => Some(Word::Form),
-            b"goal" => Some(Word::Goal),
-            _ => None,
+            b"act" => Ok(Word::Act),
+            b"prop" => Ok(Word::Prop),
+            b"prog" => Ok(Word::Prog),
+            b"form" => Ok(Word::Form),
+            b"goal" => Ok(Word::Goal),
+            _ => Err(LineFault::Shape),
         }
     }
 }
 
 // The kinds of forms.
-#[derive(Clone, Copy, PartialEq, Eq)]
+#[derive(Clone, Copy, PartialEq, Eq, Debug)]
 pub enum Kind {
     True,
     Prop,
@@ -39,23 +43,27 @@ pub enum Kind {
     Until,
 }
 
-impl Kind {
-    // The kind that the word names.
-    pub fn read(word: &[u8]) -> Option<Kind>
-        ensures { MatchOption result ((k : Kind) → word.now ≢ word_of k) (λ k. word.now ≡ word_of k) }
-    {
+// The kind that the word names.
+impl TryFrom<&[u8]> for Kind {
+    type Error = LineFault;
+
+    ghost try_from_gives = { λ word r. ReadsKind word.now r };
+
+    fn try_from(word: &[u8]) -> Result<Kind, LineFault> {
         match word {
-            b"true" => Some(Kind::True),
-            b"prop" => Some(Kind::Prop),
-            b"not" => Some(Kind::Not),
-            b"and" => Some(Kind::And),
-            b"or" => Some(Kind::Or),
-            b"next" => Some(Kind::Next),
-            b"until" => Some(Kind::Until),
-            _ => None,
+            b"true" => Ok(Kind::True),
+            b"prop" => Ok(Kind::Prop),
+            b"not" => Ok(Kind::Not),
+            b"and" => Ok(Kind::And),
+            b"or" => Ok(Kind::Or),
+            b"next" => Ok(Kind::Next),
+            b"until" => Ok(Kind::Until),
+            _ => Err(LineFault::Shape),
         }
     }
+}
 
+impl Kind {
     pub fn operands(self) -> usize
         ensures is { result ≡ operands_of self }
         ensures few { result ≤ 3 }

@@ -3,7 +3,7 @@ use Rattle.std.proofs.Common.{◌≡◌, ℕ, ◌+◌, ◌-◌, ◌*◌, ◌/◌
 use Rattle.std.specs.List.{AllByRecursion}
 use Rattle.std.proofs.lemmas.List.{take_more}
 use Rattle.std.proofs.lemmas.Bool.{cases_lt, le-leb, lt-leb}
-use Rattle.lasso.specs.LassoTexts.{decimal}
+use Rattle.lasso.specs.LassoTexts.{decimal, digits}
 
 -- the number that digits spell after the number v
 abbrev pub number : ℕ → List ℕ → ℕ
@@ -55,6 +55,17 @@ module _ (n : ℕ) where
 
   four : 1000 ≤ n → decimal n ≡ (48 + n / 1000) ∷ (48 + n / 100 % 10) ∷ (48 + n / 10 % 10) ∷ (48 + n % 10) ∷ []
   four l = let a = le-leb 1000 n (omega arith) in rw a
+
+  pub digits_decimal : n < 10000 → digits n ≡ decimal n
+  digits_decimal h =
+      let z = lt-leb 10000 n h in
+      ⊎_elim (λ a. let t = lt-leb 1000 n (omega arith) in let u = lt-leb 100 n (omega arith) in let v = lt-leb 10 n a in let e : n % 10 ≡ n = omega arith in rw (z, t, u, v) (ap (λ (d : ℕ). (48 + d) ∷ []) e))
+      (λ a. ⊎_elim (λ b. let t = lt-leb 1000 n (omega arith) in let u = lt-leb 100 n b in let v = le-leb 10 n a in let e : n / 10 % 10 ≡ n / 10 = omega arith in rw (z, t, u, v) (ap (λ (d : ℕ). (48 + d) ∷ (48 + n % 10) ∷ []) e))
+      (λ b. ⊎_elim (λ c. let t = lt-leb 1000 n c in let u = le-leb 100 n b in let v = le-leb 10 n a in let e : n / 100 % 10 ≡ n / 100 = omega arith in rw (z, t, u, v) (ap (λ (d : ℕ). (48 + d) ∷ (48 + n / 10 % 10) ∷ (48 + n % 10) ∷ []) e))
+      (λ c. let t = le-leb 1000 n c in let u = le-leb 100 n b in let v = le-leb 10 n a in let e : n / 1000 % 10 ≡ n / 1000 = omega arith in rw (z, t, u, v) (ap (λ (d : ℕ). (48 + d) ∷ (48 + n / 100 % 10) ∷ (48 + n / 10 % 10) ∷ (48 + n % 10) ∷ []) e))
+      (cases_lt n 1000))
+      (cases_lt n 100))
+      (cases_lt n 10)
 
 -- the text of a number is a numeral of that number
 abbrev Spells : ℕ → List ℕ → Type 0

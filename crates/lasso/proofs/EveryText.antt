@@ -1,8 +1,10 @@
 -- Every text has an outcome.
-use Rattle.std.proofs.Common.{◌≡◌, ℕ, zero, suc, ◌+◌, ◌^◌, ◌<◌, Bool, true, false, ◌⊎◌, List, [], ◌∷◌, ◌++◌, map, length, get_or, codes, sym, refl, ap, ◌∙◌, subst, inl, inr, ⊎_elim, append_assoc, append-nil, arith}
+use Rattle.std.proofs.Common.{◌≡◌, ℕ, zero, suc, ◌+◌, ◌^◌, ◌<◌, true, ◌⊎◌, List, [], ◌∷◌, ◌++◌, map, length, get_or, codes, Some, None, sym, refl, ap, ◌∙◌, subst, inl, inr, ⊎_elim, append_assoc, append-nil, arith}
 use lib.Bits.{bit_or}
 use Rattle.std.specs.List.{AllByRecursion}
+use Rattle.std.specs.Option.{option_map}
 use Rattle.std.proofs.ByRecursion.{All-get_or, All-from_get_or}
+use Rattle.std.proofs.lemmas.Option.{same_Some, none-some}
 use Rattle.std.proofs.lemmas.Bool.{cases_eq, cases_lt, cases_Bool, both_ways}
 use Rattle.program.specs.Names.{letter, naming, Named}
 use Rattle.program.specs.Spellings.{Missing, NumberIn}
@@ -14,13 +16,17 @@ use Rattle.lasso.specs.LassoLines.{Ordered, Faulty, Reads, AllRead, none, more, 
 use Rattle.lasso.specs.ScanLaws.{HasOneOutcome, ScanOfPrint, PrintOfScan, OneLasso, LoadedApart}
 use Rattle.lasso.specs.Scans.{at_fault, Outcome, spelled, refused, Scans, no_places, taken}
 use Rattle.lasso.specs.Tallies.{Tallied}
+use Rattle.lasso.specs.Parts.{is_stem}
+use Rattle.lasso.specs.declared.part.Part.{Part}
+use Rattle.lasso.specs.declared.part.Part.TheVariants.{Stem, Loop}
 use Rattle.lasso.specs.declared.scan.Marks.{Marks}
 use Rattle.lasso.specs.declared.scan.StepLine.{StepLine}
 use Rattle.lasso.specs.declared.scan.Tally.{Tally}
 use Rattle.lasso.proofs.Marking.{Taken, taken_none, taken_more, taken_refused, taken_read, together_joined}
 use Rattle.lasso.proofs.NamesApart.{loaded_apart}
+use Rattle.lasso.proofs.Options.{some_or_none}
 use Rattle.lasso.proofs.Splits.{together_is}
-use Rattle.lasso.proofs.StepLines.{fault_fields, fault_kind, fault_action, fault_state, fault_marks, fault_unknown_action, fault_unknown_mark, line_reads}
+use Rattle.lasso.proofs.StepLines.{fault_fields, fault_kind, fault_action, fault_state, fault_marks, fault_unknown_action, fault_unknown_mark, line_reads, parted}
 use Rattle.lasso.proofs.Surveys.{tallied_none, tallied_more}
 use Rattle.lasso.proofs.TextLaws.{read_lasso, step_of, scan_not, outcomes_same, one_lasso, scan_of_print, print_of_scan}
 use Rattle.lasso.proofs.Worded.{kind_word, joined_pieces}
@@ -71,8 +77,8 @@ mark_or_none props n m =
     ⊎_elim
     (λ h. ⊎_elim
     (λ r. ⊎_elim (λ l. inr (inr (r.0, r.1, l)))
-    (λ l. inl (record { mask = bit_or m.mask (2 ^ r.0); declared = m.declared; floor = r.0 + 1 }, (h, inr (r.0, r.1, l, refl)))) (cases_lt r.0 m.floor))
-    (λ r. inl (record { mask = m.mask; declared = false; floor = m.floor }, (h, inl (r, refl)))) (number_or_none props n))
+    (λ l. inl (record { mask = option_map (λ v. bit_or v (2 ^ r.0)) m.mask; floor = r.0 + 1 }, (h, inr (r.0, r.1, l, refl)))) (cases_lt r.0 m.floor))
+    (λ r. inl (record { mask = None; floor = m.floor }, (h, inl (r, refl)))) (number_or_none props n))
     (λ h. inr (inl h)) (name_or_none n)
 
 marks_or_none : (props ns rest : List (List ℕ)) (m : Marks) → Taken props ns m
@@ -89,10 +95,10 @@ marks_or_none props ns (n ∷ rest) m t =
 
 field_or_none : (props : List (List ℕ)) (field : List ℕ) → ((names : List (List ℕ)) × (m : Marks) × (field ≡ joined names) × MarksRead props names m) ⊎ NoMarks props field
 field_or_none props field =
-    ⊎_elim (λ e. inl ([], record { mask = 0; declared = true; floor = 0 }, e, taken_read props [] _ (taken_none props)))
+    ⊎_elim (λ e. inl ([], record { mask = Some 0; floor = 0 }, e, taken_read props [] _ (taken_none props)))
     (λ dash. ⊎_elim
     (λ r. inl (pieces 44 field, r.0, sym (together_joined (pieces 44 field) (pieces_some 44 field) ∙ together_is 44 field), taken_read props (pieces 44 field) r.0 r.1))
-    (λ r. inr (other dash r)) (marks_or_none props [] (pieces 44 field) (record { mask = 0; declared = true; floor = 0 }) (taken_none props)))
+    (λ r. inr (other dash r)) (marks_or_none props [] (pieces 44 field) (record { mask = Some 0; floor = 0 }) (taken_none props)))
     (same_bytes field (45 ∷ []))
   where
     other : (field ≡ 45 ∷ [] → ⊥) → (AllByRecursion Named (pieces 44 field) → Ordered props (pieces 44 field) → ⊥) → NoMarks props field
@@ -115,17 +121,17 @@ module _ (acts props : List (List ℕ)) where
     abbrev f : ℕ → List ℕ
     f k = get_or (fields line) k []
 
-    after_kind : length (fields line) ≡ 4 → (b : Bool) → kind_word b ≡ f 0 → Answer
+    after_kind : length (fields line) ≡ 4 → (b : Part) → kind_word (is_stem b) ≡ f 0 → Answer
     after_kind count b k =
         ⊎_elim
         (λ named. ⊎_elim
         (λ n. ⊎_elim
-        (λ m. ⊎_elim
+        (λ m. let p = parted acts props line b (f 1) (f 2) (f 3) n.0 m.0 m.1 count (sym k) refl refl refl named (omega (arith, n.1), n.2) m.2 m.3 in ⊎_elim
         (λ a. ⊎_elim
-        (λ d. inl (_, line_reads acts props line b (f 1) (f 2) (f 3) n.0 m.0 m.1 count k refl (sym n.2) (sym m.2) named (omega (arith, n.1)) m.3 a.0 a.1 d))
-        (λ d. inr (4, fault_unknown_mark acts props line b (f 1) (f 2) (f 3) n.0 m.0 m.1 count k refl (sym n.2) (sym m.2) named (omega (arith, n.1)) m.3 d))
-        (cases_Bool m.1.declared))
-        (λ a. inr (4, fault_unknown_action acts props line b (f 1) (f 2) (f 3) n.0 m.0 m.1 count k refl (sym n.2) (sym m.2) named (omega (arith, n.1)) m.3 a))
+        (λ d. inl (_, line_reads acts props line b (f 1) n.0 m.0 m.1 p a.0 d.0 a.1 d.1))
+        (λ d. inr (4, fault_unknown_mark acts props line b (f 1) n.0 m.0 m.1 p d))
+        (some_or_none m.1.mask))
+        (λ a. inr (4, fault_unknown_action acts props line b (f 1) n.0 m.0 m.1 p a))
         (number_or_none acts (f 1)))
         (λ m. inr (2, fault_marks acts props line (f 3) refl m)) (field_or_none props (f 3)))
         (λ n. inr (2, fault_state acts props line (f 2) refl (λ v h. n v (omega arith)))) (state_or_none (f 2) 4096))
@@ -134,8 +140,8 @@ module _ (acts props : List (List ℕ)) where
     line_or_none : Answer
     line_or_none =
         ⊎_elim
-        (λ count. ⊎_elim (λ k. after_kind count true (sym k))
-        (λ stem. ⊎_elim (λ k. after_kind count false (sym k)) (λ loop. inr (2, fault_kind acts props line (f 0) refl stem loop)) (same_bytes (f 0) (codes "loop")))
+        (λ count. ⊎_elim (λ k. after_kind count Stem (sym k))
+        (λ stem. ⊎_elim (λ k. after_kind count Loop (sym k)) (λ loop. inr (2, fault_kind acts props line (f 0) refl stem loop)) (same_bytes (f 0) (codes "loop")))
         (same_bytes (f 0) (codes "stem")))
         (λ count. inr (2, fault_fields acts props line count))
         (cases_eq (length (fields line)) 4)
@@ -164,18 +170,18 @@ module _ (acts props : List (List ℕ)) where
       tallied : (ss : List StepLine) → AllRead acts props (pieces 10 text) ss → ((u : Tally) × Tallied ss u) → (o : Outcome) × Scans acts props text places o
       tallied ss r u =
           let t = u.0 in
-          let never : (t.ordered ≡ true → (t.stem ≡ t.steps) ⊎ (131072 < t.steps)) → (o : Outcome) × Scans acts props text places o =
+          let never : ((n : ℕ) → t.stem ≡ Some n → (n ≡ t.steps) ⊎ (131072 < t.steps)) → (o : Outcome) × Scans acts props text places o =
           λ h. (refused 12 0, scan_not acts props text places t (ss, r, u.1) h) in
           ⊎_elim
-          (λ e. ⊎_elim (λ x. never (λ z. inl x))
+          (λ e. ⊎_elim (λ x. never (λ n z. let s : e.0 ≡ n = same_Some _ _ (sym e.1 ∙ z) in inl (omega arith)))
           (λ x. ⊎_elim
           (λ l.
-          let y = read_lasso acts props text ss t r u.1 e (omega (arith, u.1.stem)) (omega arith) in
-          ⊎_elim (λ few. (refused 9 0, no_places y.0 y.1 few)) (λ room. (spelled _ t.stem, taken y.0 y.1 room)) (cases_lt places (length (map step_of ss))))
-          (λ l. never (λ z. inr (omega arith))) (cases_lt t.steps 131073))
-          (cases_eq t.stem t.steps))
-          (λ e. never (λ z. absurd (both_ways t.ordered e z)))
-          (cases_Bool t.ordered)
+          let y = read_lasso acts props text ss t e.0 r u.1 e.1 (omega (arith, (u.1.ordered e.0 e.1).0)) (omega arith) in
+          ⊎_elim (λ few. (refused 9 0, no_places y.0 y.1 few)) (λ room. (spelled _ e.0, taken y.0 y.1 room)) (cases_lt places (length (map step_of ss))))
+          (λ l. never (λ n z. inr (omega arith))) (cases_lt t.steps 131073))
+          (cases_eq e.0 t.steps))
+          (λ e. never (λ n z. absurd (none-some _ (sym e ∙ z))))
+          (some_or_none t.stem)
 
 one_outcome : HasOneOutcome
 one_outcome acts props a b text places =

@@ -12,6 +12,7 @@ pub mod Marking
 pub mod Meetings
 pub mod NamesApart
 pub mod OneReading
+pub mod Options
 pub mod Places
 pub mod Reached
 pub mod Rests

@@ -1,11 +1,13 @@
 -- The text of a lasso, one mark and one line more.
-use Rattle.std.proofs.Common.{◌≡◌, ℕ, suc, ◌+◌, ◌<◌, Bool, true, false, cond, ltb, List, [], ◌∷◌, ◌++◌, length, get_or, take, codes, sym, refl, ap, ◌∙◌, append_assoc, append-nil, arith}
+use Rattle.std.proofs.Common.{◌≡◌, ℕ, suc, ◌+◌, ◌<◌, Bool, true, false, cond, ltb, List, [], ◌∷◌, ◌++◌, length, get_or, take, sym, refl, ap, ◌∙◌, append_assoc, append-nil, arith}
 use Rattle.std.proofs.lemmas.List.{take_more, length-take-le}
 use Rattle.std.proofs.lemmas.Bool.{true≢false, false≢true}
 use Rattle.lasso.specs.LassoTexts.{marked, each_after, joined, worded_line, worded_lines}
 use Rattle.lasso.specs.Sessions.{bit_of}
 use Rattle.lasso.specs.declared.step.Step.{Step}
-use Rattle.lasso.proofs.Written.{Wrote, wrote_then, wrote_as}
+use Rattle.lasso.specs.Written.{Wrote}
+use Rattle.lasso.specs.declared.print.Writer.{Writer}
+use Rattle.lasso.proofs.Written.{wrote_then, wrote_as}
 
 -- no name is there
 abbrev pub none : List (List ℕ) → Bool
@@ -47,10 +49,9 @@ none_push (m ∷ ms) n = refl
 
 module _ (names : List (List ℕ)) (p marks : ℕ) (h : p < length names) where
   -- a mark that is in the set is written
-  pub mark_put : {xs here after : List ℕ} {at next n : ℕ} (first : Bool) (name : List ℕ) → bit_of marks p ≡ true → name ≡ get_or names p []
-      → first ≡ none (marked (take p names) 0 marks) → Wrote xs at (so_far (marked (take p names) 0 marks)) next here
-      → Wrote here next (cond first name (44 ∷ name)) n after
-      → Wrote xs at (so_far (marked (take (p + 1) names) 0 marks)) n after × (false ≡ none (marked (take (p + 1) names) 0 marks))
+  pub mark_put : {a b c : Writer} (first : Bool) (name : List ℕ) → bit_of marks p ≡ true → name ≡ get_or names p [] → first ≡ none (marked (take p names) 0 marks)
+      → Wrote a b (so_far (marked (take p names) 0 marks)) → Wrote b c (cond first name (44 ∷ name))
+      → Wrote a c (so_far (marked (take (p + 1) names) 0 marks)) × (false ≡ none (marked (take (p + 1) names) 0 marks))
   mark_put first name b is f a w =
       let ms = marked (take p names) 0 marks in
       let more : marked (take (p + 1) names) 0 marks ≡ ms ++ name ∷ [] =
@@ -71,10 +72,6 @@ dash_put (m ∷ ms) e = absurd (false≢true e)
 pub marks_put : (ms : List (List ℕ)) → none ms ≡ false → so_far ms ≡ joined ms
 marks_put [] e = absurd (true≢false e)
 marks_put (m ∷ ms) e = refl
-
-pub kind_length : (b : Bool) → 4 ≡ length (cond b (codes "stem") (codes "loop"))
-kind_length true = refl
-kind_length false = refl
 
 module _ (acts props : List (List ℕ)) (stem : ℕ) where
   lines_push : (ss : List Step) (s : Step) (i k : ℕ) → k ≡ i + length ss

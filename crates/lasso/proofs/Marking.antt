@@ -1,25 +1,27 @@
 -- Marks read name by name, and the mask that stands for them.
-use Rattle.std.proofs.Common.{◌≡◌, ℕ, suc, ◌+◌, ◌-◌, ◌^◌, ◌<◌, ◌≤◌, Bool, true, false, cond, ◌⊎◌, ◌↔◌, List, [], ◌∷◌, ◌++◌, length, get_or, take, drop, sym, refl, ap, ◌∙◌, subst, inl, inr, ⊎_elim, append_assoc, append-nil, arith}
+use Rattle.std.proofs.Common.{◌≡◌, ℕ, suc, ◌+◌, ◌^◌, ◌<◌, ◌≤◌, Bool, true, false, cond, eqb, ◌⊎◌, ◌↔◌, List, [], ◌∷◌, ◌++◌, length, get_or, take, drop, Some, None, sym, refl, ap, ◌∙◌, subst, inl, inr, ⊎_elim, append-nil, arith}
 use lib.Bits.{bit_or}
-use Rattle.std.specs.List.{AllByRecursion}
+use Rattle.std.specs.List.{AllByRecursion, slice_split}
+use Rattle.std.specs.Option.{option_map}
 use Rattle.std.proofs.lemmas.Nat.{pow_below, or_lt}
 use Rattle.std.proofs.ByRecursion.{All-append, All-get_or}
-use Rattle.std.proofs.lemmas.List.{take-append-drop, take-take, length-take-le, get_or_append_left, get_or_push, get_or_at, length_push, length-append, take_rest}
-use Rattle.std.proofs.lemmas.Bool.{cases_lt, cases_eq, cases_order, cond-false, ne_eqb, eq-eqb, true≢false, false≢true}
+use Rattle.std.proofs.lemmas.List.{take-append-drop, take_more, take_all, drop_more, take-take, length-take-le, get_or_append_left, get_or_push, get_or_at, length_push, length-append}
+use Rattle.std.proofs.lemmas.Bool.{cases_lt, cases_eq, cases_order, cond-false, ne_eqb, eq-eqb}
 use Rattle.std.proofs.lemmas.Bool.Decides.{Decides-eqb, Decides-like, same_from_decides}
 use Rattle.program.specs.Masks.{Bit}
 use Rattle.program.specs.Names.{Named}
 use Rattle.program.specs.Spellings.{Missing, NumberIn}
 use Rattle.program.proofs.Bits.{bit_of_or, bit_one, bit_past}
 use Rattle.document.specs.Texts.{pieces}
-use Rattle.document.proofs.Pieces.{Clear, piece_last, piece_next, pieces_some}
+use Rattle.document.proofs.Pieces.{pieces_some}
 use Rattle.lasso.specs.LassoTexts.{marked, joined}
 use Rattle.lasso.specs.MarkFields.{AddsMark, RefusesMark, MarksRead, NoMarks}
 use Rattle.lasso.specs.LassoLines.{Ordered}
 use Rattle.lasso.specs.Sessions.{bit_of}
 use Rattle.lasso.specs.declared.scan.Marks.{Marks}
 use Rattle.lasso.proofs.Lines.{marked_more}
-use Rattle.lasso.proofs.Splits.{together, together_is}
+use Rattle.lasso.proofs.Options.{mapped, unmapped}
+use Rattle.lasso.proofs.Splits.{together, together_is, pieces_split}
 use Rattle.lasso.proofs.Worded.{joined_pieces}
 
 -- a name has one number
@@ -83,20 +85,20 @@ pub record Taken (props ns : List (List ℕ)) (m : Marks) : Type 0 where
   pub below : (i a : ℕ) → i < length ns → NumberIn props (get_or ns i []) a → a < m.floor
   pub top : (m.floor ≡ 0) ⊎ ((i : ℕ) × (a : ℕ) × (i < length ns) × NumberIn props (get_or ns i []) a × (m.floor ≡ a + 1))
   pub high : m.floor ≤ length props
-  pub small : m.mask < 2 ^ m.floor
-  pub known : m.declared ≡ true → marked (take m.floor props) 0 m.mask ≡ ns
-  pub unknown : m.declared ≡ false → (i : ℕ) × (i < length ns) × Missing props (get_or ns i [])
+  pub small : (v : ℕ) → m.mask ≡ Some v → v < 2 ^ m.floor
+  pub known : (v : ℕ) → m.mask ≡ Some v → marked (take m.floor props) 0 v ≡ ns
+  pub unknown : m.mask ≡ None → (i : ℕ) × (i < length ns) × Missing props (get_or ns i [])
 
-pub taken_none : (props : List (List ℕ)) → Taken props [] (record { mask = 0; declared = true; floor = 0 })
+pub taken_none : (props : List (List ℕ)) → Taken props [] (record { mask = Some 0; floor = 0 })
 taken_none props = record {
   named = tt;
   ordered = λ i j a b h l. absurd (omega arith);
   below = λ i a h. absurd (omega arith);
   top = inl refl;
   high = omega arith;
-  small = omega arith;
-  known = λ e. refl;
-  unknown = λ e. absurd (true≢false e);
+  small = λ v e. let z : 0 ≡ v = cc in omega arith;
+  known = λ v e. refl;
+  unknown = λ e. absurd (cc);
 }
 
 ordered_push : (props ns : List (List ℕ)) (n : List ℕ) → Ordered props ns
@@ -117,30 +119,36 @@ module _ (props ns : List (List ℕ)) (n : List ℕ) (m : Marks) (t : Taken prop
       ⊎_elim (λ l. inl (l, subst P (get_or_append_left ns (n ∷ []) [] i l) x)) (λ l. inr (subst P (get_or_push ns n [] i (omega arith)) x)) (cases_lt i (length ns))
 
   -- one name more that is not declared
-  taken_other : Named n → Missing props n → Taken props (ns ++ n ∷ []) (record { mask = m.mask; declared = false; floor = m.floor })
+  taken_other : Named n → Missing props n → Taken props (ns ++ n ∷ []) (record { mask = None; floor = m.floor })
   taken_other h miss = record {
     named = All-append Named ns (n ∷ []) t.named (h, tt);
     ordered = ordered_push props ns n t.ordered (λ i a b l x y. absurd (number_not_missing props n b y miss));
     below = λ i a l x. ⊎_elim (λ y. t.below i a y.0 y.1) (λ y. absurd (number_not_missing props n a y miss)) (back (λ v. NumberIn props v a) i l x);
     top = ⊎_elim inl (λ s. inr (s.0, s.1, omega (arith, s.2, length_push ns n), stays (λ v. NumberIn props v s.1) s.0 s.2 s.3, s.4)) t.top;
     high = t.high;
-    small = t.small;
-    known = λ e. absurd (false≢true e);
+    small = λ v e. absurd (cc);
+    known = λ v e. absurd (cc);
     unknown = λ e. (length ns, omega (arith, length_push ns n), subst (Missing props) (sym (get_or_push ns n [] (length ns) refl)) miss);
   }
 
   -- one proposition more
   taken_next : (p : ℕ) → Named n → NumberIn props n p → m.floor ≤ p
-      → Taken props (ns ++ n ∷ []) (record { mask = bit_or m.mask (2 ^ p); declared = m.declared; floor = p + 1 })
+      → Taken props (ns ++ n ∷ []) (record { mask = option_map (λ v. bit_or v (2 ^ p)) m.mask; floor = p + 1 })
   taken_next p h num l = record {
     named = All-append Named ns (n ∷ []) t.named (h, tt);
     ordered = ordered_push props ns n t.ordered (λ i a b k x y. let e = number_same props n b p y num in let f = t.below i a k x in omega arith);
     below = λ i a k x. ⊎_elim (λ y. let f = t.below i a y.0 y.1 in omega arith) (λ y. let e = number_same props n a p y num in omega arith) (back (λ v. NumberIn props v a) i k x);
     top = inr (length ns, p, omega (arith, length_push ns n), subst (λ (v : List ℕ). NumberIn props v p) (sym (get_or_push ns n [] (length ns) refl)) num, refl);
     high = omega (arith, num.0);
-    small = let s = pow_below m.floor (p + 1) (omega arith) in or_lt (p + 1) m.mask (2 ^ p) (omega (arith, t.small)) (pow_below p (p + 1) (omega arith));
-    known = λ e. mask_more props m.floor p m.mask l num.0 t.small ∙ ap (λ (r : List (List ℕ)). r ++ get_or props p [] ∷ []) (t.known e) ∙ ap (λ (v : List ℕ). ns ++ v ∷ []) num.1;
-    unknown = λ e. let u = t.unknown e in (u.0, omega (arith, u.1, length_push ns n), stays (Missing props) u.0 u.1 u.2);
+    small = λ v e.
+        let u = mapped (λ v. bit_or v (2 ^ p)) m.mask v e in
+        let s = pow_below m.floor (p + 1) (omega arith) in
+        subst (λ (k : ℕ). k < 2 ^ (p + 1)) u.2 (or_lt (p + 1) u.0 (2 ^ p) (omega (arith, t.small u.0 u.1)) (pow_below p (p + 1) (omega arith)));
+    known = λ v e.
+        let u = mapped (λ v. bit_or v (2 ^ p)) m.mask v e in
+        ap (λ (k : ℕ). marked (take (p + 1) props) 0 k) (sym u.2) ∙ mask_more props m.floor p u.0 l num.0 (t.small u.0 u.1)
+        ∙ ap (λ (r : List (List ℕ)). r ++ get_or props p [] ∷ []) (t.known u.0 u.1) ∙ ap (λ (v : List ℕ). ns ++ v ∷ []) num.1;
+    unknown = λ e. let u = t.unknown (unmapped (λ v. bit_or v (2 ^ p)) m.mask e) in (u.0, omega (arith, u.1, length_push ns n), stays (Missing props) u.0 u.1 u.2);
   }
 
   pub taken_more : (new : Marks) → AddsMark props n m new → Taken props (ns ++ n ∷ []) new
@@ -167,80 +175,42 @@ pub taken_read : (props ns : List (List ℕ)) (m : Marks) → Taken props ns m �
 taken_read props ns m t = record {
   named = t.named;
   ordered = t.ordered;
-  known = λ e. (marked_low props m.floor m.mask t.high t.small ∙ t.known e, low m.floor (length props) m.mask t.high t.small);
+  known = λ v e. let s = t.small v e in (marked_low props m.floor v t.high s ∙ t.known v e, low m.floor (length props) v t.high s);
   unknown = t.unknown;
 }
   where
     low : (f n m : ℕ) → f ≤ n → m < 2 ^ f → m < 2 ^ n
     low f n m h l = ⊎_elim (λ e. subst (λ (k : ℕ). m < 2 ^ k) e l) (λ e. let p = pow_below f n (omega arith) in omega arith) (cases_eq f n)
 
--- what is left of the pieces of a text from a place on: none past its end
-abbrev pub Rest : List ℕ → ℕ → List (List ℕ) → Type 0
-Rest text at rest = ((at ≤ length text) × (rest ≡ pieces 44 (drop at text))) ⊎ ((at ≡ length text + 1) × (rest ≡ []))
-
--- the names before a place were read
-pub record Walked (props : List (List ℕ)) (text : List ℕ) (at : ℕ) (m : Marks) : Type 0 where
-  pub near : at ≤ length text + 1
-  pub read : List (List ℕ)
-  pub rest : List (List ℕ)
-  pub taken : Taken props read m
-  pub left : Rest text at rest
-  pub all : pieces 44 text ≡ read ++ rest
-
-module _ (text : List ℕ) (at end : ℕ) (low : at ≤ end) (high : end ≤ length text) (clear : Clear 44 text at end) (here : end < length text → get_or text end 0 ≡ 44) where
-  -- the piece up to the next comma, and what is left after it
-  next_piece : (rest : List (List ℕ)) → Rest text at rest → (after : List (List ℕ)) × (rest ≡ take (end - at) (drop at text) ∷ after) × Rest text (end + 1) after
-  next_piece rest l =
-      ⊎_elim
-      (λ x. ⊎_elim
-      (λ less. (pieces 44 (drop (end + 1) text), x.1 ∙ piece_next 44 text at end low less clear (here less), inl (omega arith, refl)))
-      (λ more.
-      let e : end ≡ length text = omega arith in (
-        [],
-        x.1 ∙ piece_last 44 text at (subst (Clear 44 text at) e clear) ∙ ap (λ (v : List ℕ). v ∷ []) (sym (take_rest text at) ∙ ap (λ (k : ℕ). take (k - at) (drop at text)) (sym e)),
-        inr (omega arith, refl),
-      ))
-      (cases_lt end (length text)))
-      (λ x. absurd (omega (arith, x.0)))
-      l
-
-  pub walked_more : (props : List (List ℕ)) (m new : Marks) → Walked props text at m → AddsMark props (take (end - at) (drop at text)) m new → Walked props text (end + 1) new
-  walked_more props m new w a =
-      let n = take (end - at) (drop at text) in
-      let next = next_piece w.rest w.left in
-      record {
-        near = omega arith;
-        read = w.read ++ n ∷ [];
-        rest = next.0;
-        taken = taken_more props w.read n m w.taken new a;
-        left = next.2;
-        all = w.all ∙ ap (λ (r : List (List ℕ)). w.read ++ r) next.1 ∙ sym (append_assoc w.read (n ∷ []) next.0);
-      }
-
-  -- a name is refused
-  pub walked_refused : (props : List (List ℕ)) (m : Marks) → Walked props text at m → (text ≡ 45 ∷ [] → ⊥) → RefusesMark props (take (end - at) (drop at text)) m → NoMarks props text
-  walked_refused props m w dash r [] all ord is = dash is
-  walked_refused props m w dash r (v ∷ vs) all ord is =
-      let n = take (end - at) (drop at text) in
-      let next = next_piece w.rest w.left in
-      let e : v ∷ vs ≡ w.read ++ n ∷ next.0 = sym (joined_pieces v vs all) ∙ ap (pieces 44) (sym is) ∙ w.all ∙ ap (λ (q : List (List ℕ)). w.read ++ q) next.1 in
-      taken_refused props w.read n m w.taken r next.0 (subst (AllByRecursion Named) e all) (subst (Ordered props) e ord)
-
 pub together_joined : (ps : List (List ℕ)) → 0 < length ps → joined ps ≡ together 44 ps
 together_joined [] h = absurd (omega arith)
 together_joined (p ∷ ps) h = refl
 
-pub walked_all : (props : List (List ℕ)) (text : List ℕ) (at : ℕ) (m : Marks) → length text < at → Walked props text at m
-    → (names : List (List ℕ)) × (text ≡ joined names) × MarksRead props names m
-walked_all props text at m h w =
-    ⊎_elim (λ x. absurd (omega (arith, x.0)))
-    (λ x.
-    let e : pieces 44 text ≡ w.read = w.all ∙ ap (λ (r : List (List ℕ)). w.read ++ r) x.1 ∙ append-nil w.read in
-    (w.read, sym (ap joined (sym e) ∙ together_joined (pieces 44 text) (pieces_some 44 text) ∙ together_is 44 text), taken_read props w.read m w.taken))
-    w.left
+module _ (props : List (List ℕ)) (text : List ℕ) (n : ℕ) (m : Marks) (t : Taken props (take n (pieces 44 text)) m) where
+  module _ (name : List ℕ) (is : (n < length (slice_split (λ b. eqb b 44) text)) × (name ≡ get_or (slice_split (λ b. eqb b 44) text) n name)) where
+    here : (n < length (pieces 44 text)) × (name ≡ get_or (pieces 44 text) n name)
+    here = let P : List (List ℕ) → Type 0 = λ l. (n < length l) × (name ≡ get_or l n name) in subst P (pieces_split 44 text) is
 
--- a field that is a dash
-pub one_byte : (xs : List ℕ) (b : ℕ) → length xs ≡ 1 → get_or xs 0 0 ≡ b → xs ≡ b ∷ []
-one_byte [] b h e = absurd (omega arith)
-one_byte (x ∷ []) b h e = ap (λ (v : ℕ). v ∷ []) e
-one_byte (x ∷ y ∷ xs) b h e = absurd (omega arith)
+    -- the next name is added
+    pub taken_turn : (new : Marks) → AddsMark props name m new → Taken props (take (n + 1) (pieces 44 text)) new
+    taken_turn new a =
+        let e : take (n + 1) (pieces 44 text) ≡ take n (pieces 44 text) ++ name ∷ [] =
+        take_more (pieces 44 text) n name here.0 ∙ ap (λ (v : List ℕ). take n (pieces 44 text) ++ v ∷ []) (sym here.1) in
+        subst (λ (l : List (List ℕ)). Taken props l new) (sym e) (taken_more props (take n (pieces 44 text)) name m t new a)
+
+    -- the next name is refused
+    pub taken_bad : (text ≡ 45 ∷ [] → ⊥) → RefusesMark props name m → NoMarks props text
+    taken_bad dash r [] all ord is = dash is
+    taken_bad dash r (v ∷ vs) all ord is =
+        let e : v ∷ vs ≡ take n (pieces 44 text) ++ name ∷ drop (n + 1) (pieces 44 text) =
+        sym (joined_pieces v vs all) ∙ ap (pieces 44) (sym is) ∙ sym (take-append-drop n (pieces 44 text))
+        ∙ ap (λ (l : List (List ℕ)). take n (pieces 44 text) ++ l) (drop_more (pieces 44 text) n name here.0)
+        ∙ ap (λ (v : List ℕ). take n (pieces 44 text) ++ v ∷ drop (n + 1) (pieces 44 text)) (sym here.1) in
+        taken_refused props (take n (pieces 44 text)) name m t r (drop (n + 1) (pieces 44 text)) (subst (AllByRecursion Named) e all) (subst (Ordered props) e ord)
+
+  -- all names are read
+  pub taken_end : n ≡ length (slice_split (λ b. eqb b 44) text) → (names : List (List ℕ)) × (text ≡ joined names) × MarksRead props names m
+  taken_end is =
+      let long : length (slice_split (λ b. eqb b 44) text) ≡ length (pieces 44 text) = ap length (pieces_split 44 text) in
+      let all : Taken props (pieces 44 text) m = subst (λ (l : List (List ℕ)). Taken props l m) (take_all n (pieces 44 text) (omega arith)) t in
+      (pieces 44 text, sym (together_joined (pieces 44 text) (pieces_some 44 text) ∙ together_is 44 text), taken_read props (pieces 44 text) m all)

@@ -3,7 +3,7 @@ use Rattle.std.proofs.Common.{◌≡◌, ℕ, zero, suc, ◌+◌, ◌*◌, ◌/�
 use Rattle.std.specs.List.{AllByRecursion}
 use Rattle.std.proofs.lemmas.Nat.{pow_below, pow_pos, div-add-mod', mod_below}
 use Rattle.std.proofs.ByRecursion.{All-get_or}
-use Rattle.std.proofs.lemmas.Bool.{and_parts, ltb-true, leb-true, eqb-true, eq-eqb, ne_eqb, cases_lt, cases_eq, cases_order, cond-true, cond-false}
+use Rattle.std.proofs.lemmas.Bool.{and_parts, ltb-true, leb-true, eqb-true, eq-eqb, ne_eqb, cases_lt, cases_eq, cases_order, cond-true, cond-false, true≢false, false≢true}
 use Rattle.program.specs.Masks.{Bit}
 use Rattle.program.specs.Names.{Named}
 use Rattle.program.specs.Spellings.{Missing, NumberIn}
@@ -12,6 +12,9 @@ use Rattle.lasso.specs.Lassos.{fits}
 use Rattle.lasso.specs.LassoTexts.{Words, words_of, marked}
 use Rattle.lasso.specs.LassoLines.{Apart, Ordered, Shaped, Unknown, Faulty, shape, naming, Reads}
 use Rattle.lasso.specs.Sessions.{bit_of}
+use Rattle.lasso.specs.Parts.{is_stem}
+use Rattle.lasso.specs.declared.part.Part.{Part}
+use Rattle.lasso.specs.declared.part.Part.TheVariants.{Stem, Loop}
 use Rattle.lasso.specs.declared.scan.StepLine.{StepLine}
 use Rattle.lasso.specs.declared.step.Step.{Step}
 use Rattle.lasso.proofs.Subsets.{subset_le}
@@ -79,9 +82,16 @@ pub marked_known : (props : List (List ℕ)) (m i : ℕ) → i < length (marked 
 unfolding Placed
 marked_known props m i h miss = let p = marked_place props 0 m i h in miss p.0 p.1 (sym p.2)
 
+-- the stem is one part and the loop the other
+pub part_same : (a b : Part) → is_stem a ≡ is_stem b → a ≡ b
+part_same Stem Stem e = refl
+part_same Loop Loop e = refl
+part_same Stem Loop e = absurd (true≢false e)
+part_same Loop Stem e = absurd (false≢true e)
+
 module _ (acts props : List (List ℕ)) where
   pub reads_fine : (line : List ℕ) (s : StepLine) {code : ℕ} → Reads acts props line s → Faulty acts props line code → ⊥
-  reads_fine line s x (shape h) = h (words_of acts props s.in_stem s.step) x.shaped x.text
+  reads_fine line s x (shape h) = h (words_of acts props (is_stem s.part) s.step) x.shaped x.text
   reads_fine line s x (naming w sh is u) = x.known (subst (Unknown acts props) (worded_same w _ sh x.shaped (sym is ∙ x.text)) u)
 
   pub faulty_same : (line : List ℕ) {m n : ℕ} → Faulty acts props line m → Faulty acts props line n → m ≡ n
@@ -91,8 +101,8 @@ module _ (acts props : List (List ℕ)) where
   faulty_same line (naming w s e u) (naming v t f x) = refl
 
   -- a line has one kind
-  pub kind_same : (line : List ℕ) (s t : StepLine) → Reads acts props line s → Reads acts props line t → s.in_stem ≡ t.in_stem
-  kind_same line s t x y = ap (λ (v : Words). v.in_stem) (worded_same _ _ x.shaped y.shaped (sym x.text ∙ y.text))
+  pub kind_same : (line : List ℕ) (s t : StepLine) → Reads acts props line s → Reads acts props line t → s.part ≡ t.part
+  kind_same line s t x y = part_same s.part t.part (ap (λ (v : Words). v.in_stem) (worded_same _ _ x.shaped y.shaped (sym x.text ∙ y.text)))
 
 module _ (names : List (List ℕ)) (a : Apart names) where
   -- places of one name are one place
@@ -169,12 +179,12 @@ module _ (acts props : List (List ℕ)) (a : Apart acts) (b : Apart props) where
   reads_same line s t x y =
       let f = fit_parts (length acts) (length props) s.step x.fit in
       let g = fit_parts (length acts) (length props) t.step y.fit in
-      let w : words_of acts props s.in_stem s.step ≡ words_of acts props t.in_stem t.step =
+      let w : words_of acts props (is_stem s.part) s.step ≡ words_of acts props (is_stem t.part) t.step =
       worded_same _ _ x.shaped y.shaped (sym x.text ∙ y.text) in
-      let k : s.in_stem ≡ t.in_stem = ap (λ (v : Words). v.in_stem) w in
+      let k : s.part ≡ t.part = part_same s.part t.part (ap (λ (v : Words). v.in_stem) w) in
       let o : s.step.action ≡ t.step.action =
       place_same acts a s.step.action t.step.action f.action g.action (ap (λ (v : Words). v.action) w) in
       let n : s.step.state ≡ t.step.state = ap (λ (v : Words). v.state) w in
       let m : s.step.marks ≡ t.step.marks =
       mask_same props b s.step.marks t.step.marks (ap (λ (v : Words). v.marks) w) f.marks g.marks in
-      λ i. record { step = record { state = n i; action = o i; marks = m i }; in_stem = k i }
+      λ i. record { step = record { state = n i; action = o i; marks = m i }; part = k i }

@@ -1,6 +1,6 @@
 -- Pieces of a text, put together again.
-use Rattle.std.proofs.Common.{◌≡◌, ℕ, ◌<◌, eqb, List, [], ◌∷◌, ◌++◌, length, sym, refl, ap, ◌∙◌, subst, ⊎_elim, append-nil, arith}
-use Rattle.std.specs.List.{AllByRecursion}
+use Rattle.std.proofs.Common.{◌≡◌, ℕ, ◌<◌, cond, eqb, List, [], ◌∷◌, ◌++◌, length, sym, refl, ap, ◌∙◌, subst, ⊎_elim, append-nil, arith}
+use Rattle.std.specs.List.{AllByRecursion, slice_split, onto_first}
 use Rattle.std.proofs.lemmas.Bool.{cond-true, cond-false, eq-eqb, ne_eqb, cases_eq}
 use Rattle.document.specs.Texts.{pieces, put_first}
 use Rattle.document.proofs.Pieces.{pieces_some}
@@ -44,6 +44,16 @@ together_is b (x ∷ xs) =
     ∙ ap (λ (y : ℕ). y ∷ xs) (sym e))
     (λ e. ap (together b) (cond-false (eqb x b) _ _ (ne_eqb x b e)) ∙ together_put b x (pieces b xs) ∙ ap (λ (l : List ℕ). x ∷ l) (together_is b xs))
     (cases_eq x b)
+
+-- the pieces are what `split` gives
+pub pieces_split : (b : ℕ) (xs : List ℕ) → slice_split (λ x. eqb x b) xs ≡ pieces b xs
+pieces_split b [] = refl
+pieces_split b (x ∷ xs) =
+    ap (λ (l : List (List ℕ)). cond (eqb x b) ([] ∷ l) (onto_first x l)) (pieces_split b xs) ∙ ap (λ (l : List (List ℕ)). cond (eqb x b) ([] ∷ pieces b xs) l) (put (pieces b xs))
+  where
+    put : (ps : List (List ℕ)) → onto_first x ps ≡ put_first x ps
+    put [] = refl
+    put (p ∷ ps) = refl
 
 -- no piece has the byte
 pub pieces_lack : (b : ℕ) (xs : List ℕ) → AllByRecursion (Lacks b) (pieces b xs)

@@ -1,32 +1,33 @@
 -- Lines read one after another, and counted.
-use Rattle.std.proofs.Common.{◌≡◌, ℕ, suc, ◌+◌, ◌-◌, ◌<◌, ◌≤◌, Bool, true, false, cond, ◌&&◌, eqb, ltb, List, [], ◌∷◌, ◌++◌, length, get_or, take, drop, sym, refl, ap, ◌∙◌, subst, ⊎_elim, append_assoc, append-nil, arith}
-use Rattle.std.proofs.lemmas.List.{get_or_append_left, get_or_push, length_push, length-drop, drop_all}
-use Rattle.std.proofs.lemmas.Bool.{lt-ltb, le-ltb, ltb-true, ltb-false, cases_lt, cases_Bool, and_cases, and_parts, eqb-true, eqb-false, true≢false}
-use Rattle.std.proofs.lemmas.Bool.Decides.{when_true, when_false}
+use Rattle.std.proofs.Common.{◌≡◌, ℕ, suc, ◌+◌, ◌<◌, ◌≤◌, Bool, true, false, cond, eqb, ltb, List, [], ◌∷◌, ◌++◌, length, Option, Some, None, Result, Ok, Err, sym, refl, ap, ◌∙◌, subst, ⊎_elim, append_assoc, append-nil, arith}
+use denote.Ref.{Bor}
+use Rattle.std.proofs.lemmas.List.{get_or_append_left, get_or_push, length_push, nil_from_length}
+use Rattle.std.proofs.lemmas.Bool.{lt-ltb, le-ltb, cases_lt, eqb-true, eqb-false}
+use Rattle.document.specs.Faults.{line_fault_code}
 use Rattle.document.specs.Texts.{pieces}
-use Rattle.document.proofs.Pieces.{Clear, piece_last, piece_next, pieces_some}
+use Rattle.document.specs.declared.fault.LineFault.{LineFault}
+use Rattle.document.proofs.Pieces.{pieces_some}
 use Rattle.lasso.specs.LassoLines.{Faulty, Reads, AllRead, none, more, FirstFault, unended, faulty, later}
 use Rattle.lasso.specs.Scans.{in_stem_at}
-use Rattle.lasso.specs.Tallies.{Tallied, Surveyed, RefusedLine}
+use Rattle.lasso.specs.Parts.{is_stem}
+use Rattle.lasso.specs.Tallies.{Tallied, longer, counted, Cut, Surveyed, ReadsNext, RefusedLine}
+use Rattle.lasso.specs.declared.part.Part.{Part}
+use Rattle.lasso.specs.declared.part.Part.TheVariants.{Stem, Loop}
 use Rattle.lasso.specs.declared.scan.StepLine.{StepLine}
 use Rattle.lasso.specs.declared.scan.Tally.{Tally}
 
--- one line more is counted
-abbrev counted : Bool → Tally → Tally
-counted k t = record { steps = t.steps + 1; stem = cond k (t.stem + 1) t.stem; ordered = cond k (t.ordered && eqb t.stem t.steps) t.ordered }
-
-pub tallied_none : Tallied [] (record { steps = 0; stem = 0; ordered = true })
-tallied_none = record { steps = refl; stem = omega arith; ordered = λ e i h. absurd (omega arith); mixed = λ e. absurd (true≢false e) }
+pub tallied_none : Tallied [] (record { steps = 0; stem = Some 0 })
+tallied_none = record { steps = refl; ordered = λ n e. let z : 0 ≡ n = cc in (omega arith, λ i h. absurd (omega arith)); mixed = λ e. absurd (cc) }
 
 module _ (ss : List StepLine) (t : Tally) (x : Tallied ss t) (s : StepLine) where
   before : (i : ℕ) → i < length ss → in_stem_at (ss ++ s ∷ []) i ≡ in_stem_at ss i
-  before i h = ap (λ (v : StepLine). v.in_stem) (get_or_append_left ss (s ∷ []) _ i h)
+  before i h = ap (λ (v : StepLine). is_stem v.part) (get_or_append_left ss (s ∷ []) _ i h)
 
-  last : in_stem_at (ss ++ s ∷ []) (length ss) ≡ s.in_stem
-  last = ap (λ (v : StepLine). v.in_stem) (get_or_push ss s _ (length ss) refl)
+  last : in_stem_at (ss ++ s ∷ []) (length ss) ≡ is_stem s.part
+  last = ap (λ (v : StepLine). is_stem v.part) (get_or_push ss s _ (length ss) refl)
 
   -- every kind but the last is as before
-  each : (P : ℕ → Bool → Type 0) → ((i : ℕ) → i < length ss → P i (in_stem_at ss i)) → P (length ss) s.in_stem → (i : ℕ) → i < length (ss ++ s ∷ []) → P i (in_stem_at (ss ++ s ∷ []) i)
+  each : (P : ℕ → Bool → Type 0) → ((i : ℕ) → i < length ss → P i (in_stem_at ss i)) → P (length ss) (is_stem s.part) → (i : ℕ) → i < length (ss ++ s ∷ []) → P i (in_stem_at (ss ++ s ∷ []) i)
   each P old new i h =
       let long = length_push ss s in
       ⊎_elim (λ l. subst (P i) (sym (before i l)) (old i l))
@@ -40,41 +41,55 @@ module _ (ss : List StepLine) (t : Tally) (x : Tallied ss t) (s : StepLine) wher
       let long = length_push ss s in
       (m.0, m.1, m.2, omega (arith, m.3), before m.0 (omega (arith, m.2, m.3)) ∙ m.4, before m.1 m.3 ∙ m.5)
 
-  loop_line : s.in_stem ≡ false → Tallied (ss ++ s ∷ []) (record { steps = t.steps + 1; stem = t.stem; ordered = t.ordered })
+  loop_line : is_stem s.part ≡ false → Tallied (ss ++ s ∷ []) (record { steps = t.steps + 1; stem = t.stem })
   loop_line k = record {
     steps = omega (arith, x.steps, length_push ss s);
-    stem = omega (arith, x.stem);
-    ordered = λ e. each (λ i b. b ≡ ltb i t.stem) (x.ordered e) (k ∙ sym (le-ltb (length ss) t.stem (omega (arith, x.steps, x.stem))));
+    ordered = λ n e.
+        let y = x.ordered n e in
+        (omega (arith, y.0), each (λ i b. b ≡ ltb i n) y.1 (k ∙ sym (le-ltb (length ss) n (omega (arith, x.steps, y.0)))));
     mixed = λ e. still_mixed (x.mixed e);
   }
 
-  stem_line : s.in_stem ≡ true → Tallied (ss ++ s ∷ []) (record { steps = t.steps + 1; stem = t.stem + 1; ordered = t.ordered && eqb t.stem t.steps })
-  stem_line k = record {
+  stem_line : is_stem s.part ≡ true → (o : Option ℕ) → t.stem ≡ o → Tallied (ss ++ s ∷ []) (record { steps = t.steps + 1; stem = longer t.steps o })
+  stem_line k None e = record {
     steps = omega (arith, x.steps, length_push ss s);
-    stem = omega (arith, x.stem);
-    ordered = λ e.
-        let p = and_parts t.ordered (eqb t.stem t.steps) e in
-        let q = eqb-true t.stem t.steps p.1 in
-        each (λ i b. b ≡ ltb i (t.stem + 1))
-        (λ i h. x.ordered p.0 i h ∙ lt-ltb i t.stem (omega (arith, x.steps)) ∙ sym (lt-ltb i (t.stem + 1) (omega (arith, x.steps))))
-        (k ∙ sym (lt-ltb (length ss) (t.stem + 1) (omega (arith, x.steps))));
-    mixed = λ e. ⊎_elim (λ o. still_mixed (x.mixed o))
-        (λ o. ⊎_elim
-        (λ d.
-        let q = eqb-false t.stem t.steps o in
-        let l : t.stem < length ss = omega (arith, x.steps, x.stem) in
-        let long = length_push ss s in
-        (t.stem, length ss, l, omega arith, before t.stem l ∙ x.ordered d t.stem l ∙ le-ltb t.stem t.stem (omega arith), last ∙ k))
-        (λ d. still_mixed (x.mixed d)) (cases_Bool t.ordered))
-        (and_cases t.ordered (eqb t.stem t.steps) e);
+    ordered = λ n f. absurd (cc);
+    mixed = λ f. still_mixed (x.mixed e);
   }
-
-  pub tallied_more : Tallied (ss ++ s ∷ []) (counted s.in_stem t)
-  tallied_more = go s.in_stem refl
+  stem_line k (Some m) e = pick (eqb m t.steps) refl
     where
-      go : (k : Bool) → s.in_stem ≡ k → Tallied (ss ++ s ∷ []) (counted k t)
-      go true k = stem_line k
-      go false k = loop_line k
+      pick : (b : Bool) → eqb m t.steps ≡ b → Tallied (ss ++ s ∷ []) (record { steps = t.steps + 1; stem = cond b (Some (m + 1)) None })
+      pick true f =
+          let y = x.ordered m e in
+          let q = eqb-true m t.steps f in
+          record {
+            steps = omega (arith, x.steps, length_push ss s);
+            ordered = λ n g.
+                let z : m + 1 ≡ n = cc in (
+                  omega arith,
+                  each (λ i b. b ≡ ltb i n)
+                      (λ i h. y.1 i h ∙ lt-ltb i m (omega (arith, x.steps)) ∙ sym (lt-ltb i n (omega (arith, x.steps))))
+                      (k ∙ sym (lt-ltb (length ss) n (omega (arith, x.steps)))),
+                );
+            mixed = λ g. absurd (cc);
+          }
+      pick false f =
+          let y = x.ordered m e in
+          let q = eqb-false m t.steps f in
+          let l : m < length ss = omega (arith, x.steps, y.0) in
+          let long = length_push ss s in
+          record {
+            steps = omega (arith, x.steps, long);
+            ordered = λ n g. absurd (cc);
+            mixed = λ g. (m, length ss, l, omega arith, before m l ∙ y.1 m l ∙ le-ltb m m (omega arith), last ∙ k);
+          }
+
+  pub tallied_more : Tallied (ss ++ s ∷ []) (counted s.part t)
+  tallied_more = go s.part refl
+    where
+      go : (p : Part) → s.part ≡ p → Tallied (ss ++ s ∷ []) (counted p t)
+      go Stem e = stem_line (ap is_stem e) t.stem refl
+      go Loop e = loop_line (ap is_stem e)
 
 module _ (acts props : List (List ℕ)) where
   pub read_on : (l : List ℕ) (ls : List (List ℕ)) (s : StepLine) (ss : List StepLine) → 0 < length ls → Reads acts props l s → AllRead acts props ls ss → AllRead acts props (l ∷ ls) (s ∷ ss)
@@ -93,66 +108,49 @@ module _ (acts props : List (List ℕ)) where
   unended_on n [] h = absurd (omega arith)
   unended_on n (x ∷ l) h = unended
 
-  -- the lines before a place are read and counted
-  pub record Passed (text : List ℕ) (at : ℕ) (t : Tally) : Type 0 where
-    pub near : at ≤ length text
-    pub few : t.steps ≤ at
+  -- the lines before the rest of a text are read and counted
+  pub record Passed (text rest : List ℕ) (t : Tally) : Type 0 where
+    pub few : t.steps + length rest ≤ length text
     pub read : List StepLine
     pub tallied : Tallied read t
-    pub reads : (ss : List StepLine) → AllRead acts props (pieces 10 (drop at text)) ss → AllRead acts props (pieces 10 text) (read ++ ss)
-    pub faults : (code k : ℕ) → FirstFault acts props (t.steps + 1) (pieces 10 (drop at text)) code k → FirstFault acts props 1 (pieces 10 text) code k
+    pub reads : (ss : List StepLine) → AllRead acts props (pieces 10 rest) ss → AllRead acts props (pieces 10 text) (read ++ ss)
+    pub faults : (code k : ℕ) → FirstFault acts props (t.steps + 1) (pieces 10 rest) code k → FirstFault acts props 1 (pieces 10 text) code k
 
-  module _ (text : List ℕ) (at end : ℕ) (low : at ≤ end) (t : Tally) (p : Passed text at t) where
-    pub passed_more : end < length text → Clear 10 text at end → get_or text end 0 ≡ 10 → (s : StepLine) → Reads acts props (take (end - at) (drop at text)) s
-        → (new : Tally) → new ≡ counted s.in_stem t → Passed text (end + 1) new
-    passed_more high clear here s r new is =
-        let e = piece_next 10 text at end low high clear here in
-        let n : new.steps ≡ t.steps + 1 = ap (λ (v : Tally). v.steps) is in
-        let some = pieces_some 10 (drop (end + 1) text) in
+  pub passed_none : (text : List ℕ) → Passed text text (record { steps = 0; stem = Some 0 })
+  passed_none text = record { few = omega arith; read = []; tallied = tallied_none; reads = λ ss a. a; faults = λ code k f. f }
+
+  module _ (text here rest : List ℕ) (t : Tally) (p : Passed text here t) where
+    -- the line is read
+    pub passed_more : (line : Result (Bor (List ℕ)) LineFault) → Cut here line rest → (s : StepLine) → ReadsNext acts props line s
+        → (new : Tally) → new ≡ counted s.part t → new.steps ≡ t.steps + 1 → Passed text rest new
+    passed_more (Ok body) c s r new e n =
+        let some = pieces_some 10 rest in
         record {
-          near = omega arith;
-          few = omega (arith, p.few);
+          few = omega (arith, p.few, c.0);
           read = p.read ++ s ∷ [];
-          tallied = subst (Tallied (p.read ++ s ∷ [])) (sym is) (tallied_more p.read t p.tallied s);
+          tallied = subst (Tallied (p.read ++ s ∷ [])) (sym e) (tallied_more p.read t p.tallied s);
           reads = λ ss a.
               subst (AllRead acts props (pieces 10 text)) (sym (append_assoc p.read (s ∷ []) ss))
-              (p.reads (s ∷ ss) (subst (λ (l : List (List ℕ)). AllRead acts props l (s ∷ ss)) (sym e) (read_on _ (pieces 10 (drop (end + 1) text)) s ss some r a)));
-          faults = λ code k f.
-              let g : FirstFault acts props (suc (t.steps + 1)) (pieces 10 (drop (end + 1) text)) code k =
-              subst (λ (v : ℕ). FirstFault acts props v (pieces 10 (drop (end + 1) text)) code k) (omega arith) f in
-              p.faults code k (subst (λ (l : List (List ℕ)). FirstFault acts props (t.steps + 1) l code k) (sym e) (later_on (t.steps + 1) _ (pieces 10 (drop (end + 1) text)) s code k some r g));
+              (p.reads (s ∷ ss) (subst (λ (l : List (List ℕ)). AllRead acts props l (s ∷ ss)) (sym c.1) (read_on body.now (pieces 10 rest) s ss some r a)));
+          faults = λ code k a.
+              let g : FirstFault acts props (suc (t.steps + 1)) (pieces 10 rest) code k = subst (λ (v : ℕ). FirstFault acts props v (pieces 10 rest) code k) (omega arith) a in
+              p.faults code k (subst (λ (l : List (List ℕ)). FirstFault acts props (t.steps + 1) l code k) (sym c.1) (later_on (t.steps + 1) body.now (pieces 10 rest) s code k some r g));
         }
+    passed_more (Err f) c s r new e n = absurd r
 
-    pub passed_fault : end < length text → Clear 10 text at end → get_or text end 0 ≡ 10 → (code : ℕ) → Faulty acts props (take (end - at) (drop at text)) code
+    -- the line is refused
+    pub passed_refused : (line : Result (Bor (List ℕ)) LineFault) → Cut here line rest → (code : ℕ) → RefusedLine acts props line code
         → FirstFault acts props 1 (pieces 10 text) code (t.steps + 1)
-    passed_fault high clear here code f =
-        let e = piece_next 10 text at end low high clear here in
-        p.faults code (t.steps + 1) (subst (λ (l : List (List ℕ)). FirstFault acts props (t.steps + 1) l code (t.steps + 1)) (sym e)
-        (fault_on (t.steps + 1) _ (pieces 10 (drop (end + 1) text)) code (pieces_some 10 (drop (end + 1) text)) f))
+    passed_refused (Ok body) c code r =
+        p.faults code (t.steps + 1)
+        (subst (λ (l : List (List ℕ)). FirstFault acts props (t.steps + 1) l code (t.steps + 1)) (sym c.1) (fault_on (t.steps + 1) body.now (pieces 10 rest) code (pieces_some 10 rest) r))
+    passed_refused (Err f) c code r =
+        let two : code ≡ 2 = r ∙ ap line_fault_code c.1.0 in
+        p.faults code (t.steps + 1)
+        (subst (λ (k : ℕ). FirstFault acts props (t.steps + 1) (pieces 10 here) k (t.steps + 1)) (sym two)
+        (subst (λ (l : List (List ℕ)). FirstFault acts props (t.steps + 1) l 2 (t.steps + 1)) (sym c.1.1) (unended_on (t.steps + 1) here (omega (arith, c.0)))))
 
-    pub passed_unended : at < length text → end ≡ length text → Clear 10 text at end → FirstFault acts props 1 (pieces 10 text) 2 (t.steps + 1)
-    passed_unended some is clear =
-        let e = piece_last 10 text at (subst (Clear 10 text at) is clear) in
-        p.faults 2 (t.steps + 1) (subst (λ (l : List (List ℕ)). FirstFault acts props (t.steps + 1) l 2 (t.steps + 1)) (sym e)
-        (unended_on (t.steps + 1) (drop at text) (omega (arith, length-drop at text))))
-
-    -- a line is refused, whole or not
-    pub passed_refused : at < length text → end ≤ length text → Clear 10 text at end → (end < length text → get_or text end 0 ≡ 10) → (code line : ℕ) → line ≡ t.steps + 1
-        → RefusedLine acts props (take (end - at) (drop at text)) (ltb end (length text)) code → FirstFault acts props 1 (pieces 10 text) code line
-    passed_refused some high clear here code line is r =
-        ⊎_elim
-        (λ w.
-        let l = ltb-true end (length text) w in
-        let f = when_true (Faulty acts props (take (end - at) (drop at text)) code) (code ≡ 2) w r in
-        subst (FirstFault acts props 1 (pieces 10 text) code) (sym is) (passed_fault l clear (here l) code f))
-        (λ w.
-        let l = ltb-false end (length text) w in
-        let f = when_false (Faulty acts props (take (end - at) (drop at text)) code) (code ≡ 2) w r in
-        let g = passed_unended some (omega arith) clear in
-        subst (λ (k : ℕ). FirstFault acts props 1 (pieces 10 text) k line) (sym f) (subst (FirstFault acts props 1 (pieces 10 text) 2) (sym is) g))
-        (cases_Bool (ltb end (length text)))
-
-  pub passed_all : (text : List ℕ) (at : ℕ) (t : Tally) → length text ≤ at → Passed text at t → Surveyed acts props text t
-  passed_all text at t h p =
-      let e : AllRead acts props (pieces 10 (drop at text)) [] = subst (λ (l : List ℕ). AllRead acts props (pieces 10 l) []) (sym (drop_all at text h)) none in
+  pub passed_all : (text rest : List ℕ) (t : Tally) → length rest ≡ 0 → Passed text rest t → Surveyed acts props text t
+  passed_all text rest t is p =
+      let e : AllRead acts props (pieces 10 rest) [] = subst (λ (l : List ℕ). AllRead acts props (pieces 10 l) []) (sym (nil_from_length rest is)) none in
       (p.read, subst (AllRead acts props (pieces 10 text)) (append-nil p.read) (p.reads [] e), p.tallied)

@@ -1,9 +1,9 @@
 -- Texts of lassos: one outcome, one lasso.
-use Rattle.std.proofs.Common.{◌≡◌, ℕ, zero, suc, ◌+◌, ◌<◌, ◌≤◌, Bool, true, ltb, ◌⊎◌, List, [], ◌∷◌, ◌++◌, map, length, take, drop, sym, refl, ap, ◌∙◌, subst, inl, inr, ⊎_elim, append_assoc, arith}
+use Rattle.std.proofs.Common.{◌≡◌, ℕ, zero, suc, ◌+◌, ◌<◌, ◌≤◌, Bool, true, false, ltb, ◌⊎◌, List, [], ◌∷◌, ◌++◌, map, length, take, drop, Option, Some, None, sym, refl, ap, ◌∙◌, subst, inl, inr, ⊎_elim, append_assoc, arith}
 use Rattle.std.specs.List.{AllByRecursion}
 use Rattle.std.proofs.ByRecursion.{All-get_or, All-from_get_or}
 use Rattle.std.proofs.lemmas.List.{length-map, take_at, drop_at}
-use Rattle.std.proofs.lemmas.Bool.{lt-ltb, le-ltb, ltb-true, ltb-false, cases_order, cases_Bool, both_ways}
+use Rattle.std.proofs.lemmas.Bool.{lt-ltb, le-ltb, ltb-true, ltb-false, cases_order, both_ways}
 use Rattle.document.specs.Texts.{pieces}
 use Rattle.lasso.specs.Lassos.{fits, IsLasso}
 use Rattle.lasso.specs.LassoTexts.{worded, words_of, lines_from, lasso_text}
@@ -11,6 +11,9 @@ use Rattle.lasso.specs.LassoLines.{Apart, Reads, AllRead, none, more, FirstFault
 use Rattle.lasso.specs.ScanLaws.{ScanOfPrint, PrintOfScan, OneLasso}
 use Rattle.lasso.specs.Scans.{at_fault, in_stem_at, SpellsNoLasso, Outcome, spelled, refused, Scans, no_lasso, no_places, taken}
 use Rattle.lasso.specs.Tallies.{Tallied, Surveyed, Filled}
+use Rattle.lasso.specs.Parts.{is_stem}
+use Rattle.lasso.specs.declared.part.Part.{Part}
+use Rattle.lasso.specs.declared.part.Part.TheVariants.{Stem, Loop}
 use Rattle.lasso.specs.declared.scan.StepLine.{StepLine}
 use Rattle.lasso.specs.declared.scan.Tally.{Tally}
 use Rattle.lasso.specs.declared.step.Step.{Step}
@@ -19,10 +22,18 @@ use Rattle.lasso.proofs.OneReading.{words_shaped, words_known, reads_same, reads
 use Rattle.lasso.proofs.Splits.{pieces_next, together, together_is}
 use Rattle.lasso.proofs.Worded.{worded_lacks}
 
+abbrev part_of : Bool → Part
+part_of true = Stem
+part_of false = Loop
+
+part_of_is : (b : Bool) → is_stem (part_of b) ≡ b
+part_of_is true = refl
+part_of_is false = refl
+
 -- the lines of steps of which the first is number i
 abbrev lines_of : ℕ → ℕ → List Step → List StepLine
 lines_of stem i [] = []
-lines_of stem i (s ∷ ss) = record { step = s; in_stem = ltb i stem } ∷ lines_of stem (suc i) ss
+lines_of stem i (s ∷ ss) = record { step = s; part = part_of (ltb i stem) } ∷ lines_of stem (suc i) ss
 
 abbrev pub step_of : StepLine → Step
 step_of s = s.step
@@ -37,7 +48,7 @@ lines_steps stem i (s ∷ ss) = ap {B = List Step} (λ l. s ∷ l) (lines_steps 
 
 lines_kinds : (stem i : ℕ) (ss : List Step) (k : ℕ) → k < length ss → in_stem_at (lines_of stem i ss) k ≡ ltb (i + k) stem
 lines_kinds stem i [] k h = absurd (omega arith)
-lines_kinds stem i (s ∷ ss) zero h = ap (λ (j : ℕ). ltb j stem) (omega arith)
+lines_kinds stem i (s ∷ ss) zero h = part_of_is (ltb i stem) ∙ ap (λ (j : ℕ). ltb j stem) (omega arith)
 lines_kinds stem i (s ∷ ss) (suc k) h = lines_kinds stem (suc i) ss k (omega arith) ∙ ap (λ (j : ℕ). ltb j stem) (omega arith)
 
 -- steps that stand first by their kinds are the stem
@@ -79,7 +90,7 @@ module _ (acts props : List (List ℕ)) where
       → together 10 ls ≡ lines_from acts props stem i (map step_of ss)
   read_text none stem i h = refl
   read_text (more {l} {m} {ms} {s} {ss} r x) stem i h =
-      let kind : s.in_stem ≡ ltb i stem = h 0 (omega arith) ∙ ap (λ (j : ℕ). ltb j stem) (omega arith) in
+      let kind : is_stem s.part ≡ ltb i stem = h 0 (omega arith) ∙ ap (λ (j : ℕ). ltb j stem) (omega arith) in
       let rest = read_text x stem (suc i) (λ k b. h (suc k) (omega arith) ∙ ap (λ (j : ℕ). ltb j stem) (omega arith)) in
       ap (λ (v : List ℕ). v ++ 10 ∷ together 10 (m ∷ ms)) (r.text ∙ ap (λ (b : Bool). worded (words_of acts props b s.step)) kind)
       ∙ ap (λ (v : List ℕ). worded (words_of acts props (ltb i stem) s.step) ++ 10 ∷ v) rest
@@ -91,24 +102,24 @@ module _ (acts props : List (List ℕ)) where
   read_fits (more r x) = (r.fit, read_fits x)
 
   -- lines in order spell a lasso
-  pub read_lasso : (text : List ℕ) (ss : List StepLine) (t : Tally) → AllRead acts props (pieces 10 text) ss → Tallied ss t → t.ordered ≡ true → t.stem < t.steps → t.steps ≤ 131072
-      → IsLasso (length acts) (length props) (map step_of ss) t.stem × (text ≡ lasso_text acts props (map step_of ss) t.stem)
-  read_lasso text ss t r x e h l =
+  pub read_lasso : (text : List ℕ) (ss : List StepLine) (t : Tally) (n : ℕ) → AllRead acts props (pieces 10 text) ss → Tallied ss t → t.stem ≡ Some n → n < t.steps → t.steps ≤ 131072
+      → IsLasso (length acts) (length props) (map step_of ss) n × (text ≡ lasso_text acts props (map step_of ss) n)
+  read_lasso text ss t n r x e h l =
       let long = length-map ss step_of in (
         record {
           short = omega (arith, x.steps);
           served = omega (arith, x.steps);
           declared = λ i b. All-get_or Fits (map step_of ss) i _ b (read_fits r);
         },
-        sym (together_is 10 text) ∙ read_text r t.stem 0 (λ k b. x.ordered e k b ∙ ap (λ (j : ℕ). ltb j t.stem) (omega arith)),
+        sym (together_is 10 text) ∙ read_text r n 0 (λ k b. (x.ordered n e).1 k b ∙ ap (λ (j : ℕ). ltb j n) (omega arith)),
       )
 
   -- readings of the same lines have the same kinds
   alike : {ls : List (List ℕ)} {ss ts : List StepLine} → AllRead acts props ls ss → AllRead acts props ls ts → (length ss ≡ length ts) × ((i : ℕ) → in_stem_at ss i ≡ in_stem_at ts i)
   alike none none = (refl, λ i. refl)
-  alike (more {l} {m} {ms} {s} {ss} r x) (more {s = t} {ss = ts} q y) = let e = alike x y in (ap suc e.0, here s t ss ts (kind_same acts props l s t r q) e.1)
+  alike (more {l} {m} {ms} {s} {ss} r x) (more {s = t} {ss = ts} q y) = let e = alike x y in (ap suc e.0, here s t ss ts (ap is_stem (kind_same acts props l s t r q)) e.1)
     where
-      here : (s t : StepLine) (ss ts : List StepLine) → s.in_stem ≡ t.in_stem → ((i : ℕ) → in_stem_at ss i ≡ in_stem_at ts i) → (i : ℕ) → in_stem_at (s ∷ ss) i ≡ in_stem_at (t ∷ ts) i
+      here : (s t : StepLine) (ss ts : List StepLine) → is_stem s.part ≡ is_stem t.part → ((i : ℕ) → in_stem_at ss i ≡ in_stem_at ts i) → (i : ℕ) → in_stem_at (s ∷ ss) i ≡ in_stem_at (t ∷ ts) i
       here s t ss ts k h zero = k
       here s t ss ts k h (suc i) = h i
 
@@ -119,12 +130,15 @@ module _ (acts props : List (List ℕ)) where
       let x = v.2 in
       record {
         steps = x.steps ∙ e.0;
-        stem = x.stem;
-        ordered = λ o i h. sym (e.1 i) ∙ x.ordered o i (omega (arith, e.0));
+        ordered = λ n o. let y = x.ordered n o in (y.0, λ i h. sym (e.1 i) ∙ y.1 i (omega (arith, e.0)));
         mixed = λ o. let m = x.mixed o in (m.0, m.1, m.2, omega (arith, m.3, e.0), sym (e.1 m.0) ∙ m.4, sym (e.1 m.1) ∙ m.5);
       }
 
   module _ (a : Apart acts) (b : Apart props) where
+    reads : (k : Bool) (s : Step) → Fits s → Reads acts props (worded (words_of acts props k s)) (record { step = s; part = part_of k })
+    reads true s h = record { fit = h; text = refl; shaped = words_shaped acts props a b true s h; known = words_known acts props a b true s h }
+    reads false s h = record { fit = h; text = refl; shaped = words_shaped acts props a b false s h; known = words_known acts props a b false s h }
+
     text_read : (stem i : ℕ) (steps : List Step) → AllByRecursion Fits steps → AllRead acts props (pieces 10 (lines_from acts props stem i steps)) (lines_of stem i steps)
     text_read stem i [] h = none
     text_read stem i (s ∷ ss) h =
@@ -134,7 +148,7 @@ module _ (acts props : List (List ℕ)) where
         ap (λ (v : List ℕ). pieces 10 (v ++ rest)) (sym (line_agree acts props (ltb i stem) s (words_shaped acts props a b (ltb i stem) s h.0).marks))
         ∙ ap (pieces 10) (append_assoc line (10 ∷ []) rest) ∙ pieces_next 10 line rest (worded_lacks (words_shaped acts props a b (ltb i stem) s h.0)) in
         subst (λ (l : List (List ℕ)). AllRead acts props l (lines_of stem i (s ∷ ss))) (sym e)
-        (on line (pieces 10 rest) (record { fit = h.0; text = refl; shaped = words_shaped acts props a b (ltb i stem) s h.0; known = words_known acts props a b (ltb i stem) s h.0 }) (text_read stem (suc i) ss h.1))
+        (on line (pieces 10 rest) (reads (ltb i stem) s h.0) (text_read stem (suc i) ss h.1))
       where
         on : {s : StepLine} {ss : List StepLine} (l : List ℕ) (ls : List (List ℕ)) → Reads acts props l s → AllRead acts props ls ss → AllRead acts props (l ∷ ls) (s ∷ ss)
         on l [] r x = elim x [ ]
@@ -193,29 +207,30 @@ module _ (acts props : List (List ℕ)) where
     outcomes_same {text} (taken {steps = s} {stem = m} l e h) (taken {steps = t} {stem = n} k f j) = let same = one_lasso' s t m n text l k e f in λ i. spelled (same.0 i) (same.1 i)
 
 module _ (acts props : List (List ℕ)) (text : List ℕ) (places : ℕ) (t : Tally) (v : Surveyed acts props text t) where
-  pub scan_not : (t.ordered ≡ true → (t.stem ≡ t.steps) ⊎ (131072 < t.steps)) → Scans acts props text places (refused 12 0)
-  scan_not h =
-      let x = v.2 in
-      no_lasso v.1
-      (⊎_elim
-      (λ e. ⊎_elim (λ all. inl (λ i b. x.ordered e i b ∙ lt-ltb i t.stem (omega (arith, x.steps)))) (λ large. inr (inr (omega (arith, x.steps)))) (h e))
-      (λ e. inr (inl (x.mixed e)))
-      (cases_Bool t.ordered))
+  pub scan_not : ((n : ℕ) → t.stem ≡ Some n → (n ≡ t.steps) ⊎ (131072 < t.steps)) → Scans acts props text places (refused 12 0)
+  scan_not h = no_lasso v.1 (why t.stem refl)
+    where
+      why : (o : Option ℕ) → t.stem ≡ o → SpellsNoLasso v.0
+      why None e = inr (inl (v.2.mixed e))
+      why (Some n) e =
+          let x = v.2 in
+          let y = x.ordered n e in
+          ⊎_elim (λ all. inl (λ i b. y.1 i b ∙ lt-ltb i n (omega (arith, x.steps)))) (λ large. inr (inr (omega (arith, x.steps)))) (h n e)
 
-  module _ (e : t.ordered ≡ true) (h : t.stem ≡ t.steps → ⊥) (l : t.steps ≤ 131072) where
-    lasso : IsLasso (length acts) (length props) (map step_of v.0) t.stem × (text ≡ lasso_text acts props (map step_of v.0) t.stem)
-    lasso = read_lasso acts props text v.0 t v.1 v.2 e (omega (arith, v.2.stem)) l
+  module _ (n : ℕ) (e : t.stem ≡ Some n) (h : n ≡ t.steps → ⊥) (l : t.steps ≤ 131072) where
+    lasso : IsLasso (length acts) (length props) (map step_of v.0) n × (text ≡ lasso_text acts props (map step_of v.0) n)
+    lasso = read_lasso acts props text v.0 t n v.1 v.2 e (omega (arith, (v.2.ordered n e).0)) l
 
     pub scan_room : places < t.steps → Scans acts props text places (refused 9 0)
     scan_room few = no_places lasso.0 lasso.1 (omega (arith, v.2.steps, length-map v.0 step_of))
 
     pub scan_taken : (before after : List Step) → places ≡ length before → t.steps ≤ places → Filled v.0 before after
-        → Scans acts props text places (spelled (take t.steps after) t.stem) × (t.steps ≤ places) × (drop t.steps after ≡ drop t.steps before)
+        → Scans acts props text places (spelled (take t.steps after) n) × (t.steps ≤ places) × (drop t.steps after ≡ drop t.steps before)
     scan_taken before after is room f =
         let ss = v.0 in
         let long : length (map step_of ss) ≡ t.steps = length-map ss step_of ∙ sym v.2.steps in
         let front : take t.steps after ≡ map step_of ss = ap (take t.steps) f ∙ take_at (map step_of ss) _ t.steps long in (
-          subst (λ (w : List Step). Scans acts props text places (spelled w t.stem)) (sym front) (taken lasso.0 lasso.1 (omega arith)),
+          subst (λ (w : List Step). Scans acts props text places (spelled w n)) (sym front) (taken lasso.0 lasso.1 (omega arith)),
           room,
           ap (drop t.steps) f ∙ drop_at (map step_of ss) _ t.steps long ∙ ap (λ (k : ℕ). drop k before) (sym v.2.steps),
         )

@@ -1,19 +1,13 @@
 -- Bytes written one after another.
 use Rattle.std.proofs.Common.{◌≡◌, ℕ, ◌+◌, ◌<◌, ◌≤◌, List, [], ◌∷◌, ◌++◌, length, get_or, take, drop, set, sym, refl, ap, ◌∙◌, subst, append_assoc, arith}
-use Rattle.std.proofs.lemmas.List.{take_more, take_all, length-append, length_push, set_at, length-take-le}
-use Rattle.lasso.specs.Written.{written}
+use Rattle.std.proofs.lemmas.List.{take_more, length-append, length_push, set_at}
+use Rattle.lasso.specs.Written.{written, Wrote}
+use Rattle.lasso.specs.declared.print.Writer.{Writer}
 
 -- one word after another
 pub written_append : (xs : List ℕ) (at : ℕ) (v w : List ℕ) (n : ℕ) → n ≡ at + length v → written xs at (v ++ w) ≡ written (written xs at v) n w
 written_append xs at [] w n is = ap (λ (k : ℕ). written xs k w) (omega arith)
 written_append xs at (b ∷ v) w n is = written_append (set xs at b) (at + 1) v w n (omega arith)
-
--- one byte more
-pub written_more : (xs : List ℕ) (at : ℕ) (w : List ℕ) (k : ℕ) → k < length w
-    → written xs at (take (k + 1) w) ≡ set (written xs at (take k w)) (at + k) (get_or w k 0)
-written_more xs at w k h =
-    ap (λ (l : List ℕ). written xs at l) (take_more w k 0 h)
-    ∙ written_append xs at (take k w) (get_or w k 0 ∷ []) (at + k) (ap (λ (n : ℕ). at + n) (sym (length-take-le k w (omega arith))))
 
 -- into a part that has room
 written_part : (p ys : List ℕ) (at : ℕ) (w : List ℕ) → length p ≡ at → length w ≤ length ys → written (p ++ ys) at w ≡ p ++ (w ++ drop (length w) ys)
@@ -28,28 +22,22 @@ written_part p (y ∷ ys) at (b ∷ w) is h =
 pub written_first : (xs w : List ℕ) → length w ≤ length xs → written xs 0 w ≡ w ++ drop (length w) xs
 written_first xs w h = written_part [] xs 0 w refl h
 
--- a turn of a loop that writes byte by byte, and its end
-pub wrote_more : (xs : List ℕ) (at : ℕ) (w : List ℕ) (k : ℕ) (here : List ℕ) (next b : ℕ) (after : List ℕ) → k < length w → next ≡ at + k
-    → here ≡ written xs at (take k w) → b ≡ get_or w k 0 → after ≡ set here next b → after ≡ written xs at (take (k + 1) w)
-wrote_more xs at w k here next b after h n t v a =
-    a ∙ ap (λ (l : List ℕ). set l next b) t ∙ ap (λ (m : ℕ). set (written xs at (take k w)) m b) n ∙ ap (λ (x : ℕ). set (written xs at (take k w)) (at + k) x) v
-    ∙ sym (written_more xs at w k h)
-
-pub wrote_all : (xs : List ℕ) (at : ℕ) (w : List ℕ) (k : ℕ) (here : List ℕ) → length w ≤ k → here ≡ written xs at (take k w) → here ≡ written xs at w
-wrote_all xs at w k here h t = t ∙ ap (λ (l : List ℕ). written xs at l) (take_all k w h)
-
--- a word was written at a place, and n is the place after it
-pub record Wrote (xs : List ℕ) (at : ℕ) (w : List ℕ) (n : ℕ) (ys : List ℕ) : Type 0 where
-  pub next : n ≡ at + length w
-  pub text : ys ≡ written xs at w
-
--- one word after another, as two calls write them
-pub wrote_then : {xs ys zs v w : List ℕ} {at m n : ℕ} → Wrote xs at v m ys → Wrote ys m w n zs → Wrote xs at (v ++ w) n zs
-wrote_then {xs} {ys} {zs} {v} {w} {at} {m} {n} a b = record {
-  next = omega (arith, a.next, b.next, length-append v w);
-  text = b.text ∙ ap (λ (l : List ℕ). written l m w) a.text ∙ sym (written_append xs at v w m a.next);
+-- one word after another
+pub wrote_then : {a b c : Writer} {v w : List ℕ} → Wrote a b v → Wrote b c w → Wrote a c (v ++ w)
+wrote_then {a} {b} {c} {v} {w} x y = record {
+  same = y.same ∙ x.same;
+  next = omega (arith, x.next, y.next, length-append v w);
+  text = y.text ∙ ap (λ (l : List ℕ). written l b.at w) x.text ∙ sym (written_append a.text.now a.at v w b.at x.next);
 }
 
 -- the same word under another name
-pub wrote_as : {xs ys v : List ℕ} {at n : ℕ} (w : List ℕ) → Wrote xs at v n ys → v ≡ w → Wrote xs at w n ys
-wrote_as {xs} {ys} {v} {at} {n} w a e = let P : List ℕ → Type 0 = λ l. Wrote xs at l n ys in subst P e a
+pub wrote_as : {a b : Writer} {v : List ℕ} (w : List ℕ) → Wrote a b v → v ≡ w → Wrote a b w
+wrote_as {a} {b} w x e = subst (Wrote a b) e x
+
+-- by a writer that is the same
+pub wrote_by : {a b c : Writer} {w : List ℕ} → c ≡ b → Wrote a b w → Wrote a c w
+wrote_by {a} {b} {c} {w} e x = subst (λ s. Wrote a s w) (sym e) x
+
+-- one byte more of a word
+pub wrote_more : {a b c : Writer} (w : List ℕ) (k : ℕ) → k < length w → Wrote a b (take k w) → (v : ℕ) → v ≡ get_or w k 0 → Wrote b c (v ∷ []) → Wrote a c (take (k + 1) w)
+wrote_more w k h x v e y = wrote_as (take (k + 1) w) (wrote_then x y) (ap (λ (b : ℕ). take k w ++ b ∷ []) e ∙ sym (take_more w k 0 h))

@@ -1,5 +1,5 @@
 -- Words of truths, filled form by form.
-use Rattle.std.specs.Prelude.{◌≡◌, ℕ, ◌<◌, Bool, true, false, not, ◌&&◌, ◌||◌, ◌⊎◌, ◌↔◌, List, length, ◌==◌, slice_index}
+use Rattle.std.specs.Prelude.{◌≡◌, ℕ, ◌<◌, Bool, true, not, ◌&&◌, ◌||◌, ◌⊎◌, ◌↔◌, List, length, ◌==◌, slice_index}
 use Rattle.program.specs.Masks.{Bit}
 use Rattle.program.specs.Rows.{RowOf}
 use Rattle.document.specs.Documents.{Document, WellFormed, form_at, formula_at, program_at}
@@ -12,15 +12,15 @@ use Rattle.lasso.specs.Readings.{Truth}
 use Rattle.lasso.specs.Sessions.{bit_of, reading}
 use Rattle.lasso.specs.declared.step.Step.{Step}
 
--- whether a form that is no until holds at a step, by the truths of earlier forms there and at the step after
-abbrev pub holds_by : Form → Step → ℕ → ℕ → Bool
-holds_by True s here next = true
-holds_by (Prop p) s here next = bit_of s.marks p
-holds_by (Not f) s here next = not (bit_of here f)
-holds_by (And f g) s here next = bit_of here f && bit_of here g
-holds_by (Or f g) s here next = bit_of here f || bit_of here g
-holds_by (Next a f) s here next = s.action == a && bit_of next f
-holds_by (Until f p g) s here next = false
+-- whether a form holds at a step, by the truths of earlier forms there and at the step after, and an until by its states there
+abbrev pub holds_by : Form → Step → ℕ → ℕ → ℕ → Bool
+holds_by True s here next states = true
+holds_by (Prop p) s here next states = bit_of s.marks p
+holds_by (Not f) s here next states = not (bit_of here f)
+holds_by (And f g) s here next states = bit_of here f && bit_of here g
+holds_by (Or f g) s here next states = bit_of here f || bit_of here g
+holds_by (Next a f) s here next states = s.action == a && bit_of next f
+holds_by (Until f p g) s here next states = bit_of states 0
 
 -- no until
 abbrev pub Plain : Form → Type 0
@@ -44,3 +44,7 @@ pub record Judges (held : Declared) (steps : List Step) (d : Document) : Type 0 
 abbrev pub Judged : Document → List Step → ℕ → ℕ → ℕ → List ℕ → Type 0
 Judged d steps stem e i truths = (h k : ℕ) → k < length steps
     → Bit (slice_index truths k) h ↔ (((h < e) ⊎ ((h ≡ e) × (k < i))) × Truth (reading steps stem) k (formula_at d h))
+
+-- at each step state 0 is among the states where form e is true, and not elsewhere
+abbrev pub Rests : Document → List Step → ℕ → ℕ → List ℕ → Type 0
+Rests d steps stem e states = (i : ℕ) → i < length steps → Bit (slice_index states i) 0 ↔ Truth (reading steps stem) i (formula_at d e)

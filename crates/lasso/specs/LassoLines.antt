@@ -5,6 +5,7 @@ use Rattle.program.specs.Names.{Named}
 use Rattle.program.specs.Spellings.{Missing, NumberIn}
 use Rattle.lasso.specs.Lassos.{fits}
 use Rattle.lasso.specs.LassoTexts.{Words, worded, words_of}
+use Rattle.lasso.specs.Parts.{is_stem}
 use Rattle.lasso.specs.declared.scan.StepLine.{StepLine}
 
 -- the names of one kind: well formed, and no two alike
@@ -35,9 +36,9 @@ pub data Faulty (acts props : List (List ℕ)) (line : List ℕ) : ℕ → Type 
 -- a line that has no fault and is the line of this step
 pub record Reads (acts props : List (List ℕ)) (line : List ℕ) (s : StepLine) : Type 0 where
   pub fit : fits (length acts) (length props) s.step ≡ true
-  pub text : line ≡ worded (words_of acts props s.in_stem s.step)
-  pub shaped : Shaped props (words_of acts props s.in_stem s.step)
-  pub known : Unknown acts props (words_of acts props s.in_stem s.step) → ⊥
+  pub text : line ≡ worded (words_of acts props (is_stem s.part) s.step)
+  pub shaped : Shaped props (words_of acts props (is_stem s.part) s.step)
+  pub known : Unknown acts props (words_of acts props (is_stem s.part) s.step) → ⊥
 
 -- the lines of a text are all read; what follows the last line feed is no line
 pub data AllRead (acts props : List (List ℕ)) : List (List ℕ) → List StepLine → Type 0 where

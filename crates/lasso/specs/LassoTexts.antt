@@ -1,5 +1,5 @@
 -- The text of a lasso: a line for each step.
-use Rattle.std.specs.Prelude.{ℕ, suc, ◌+◌, ◌/◌, ◌%◌, ◌^◌, Bool, cond, List, [], ◌∷◌, ◌++◌, length, codes, ◌==◌, nat_le, nat_lt, slice_index_or}
+use Rattle.std.specs.Prelude.{ℕ, suc, ◌+◌, ◌/◌, ◌%◌, ◌^◌, Bool, cond, if◌then◌else◌, List, [], ◌∷◌, ◌++◌, length, codes, ◌==◌, nat_le, nat_lt, slice_index_or}
 use Rattle.lasso.specs.declared.step.Step.{Step}
 
 -- a number below ten thousand in decimal, without leading zeros
@@ -8,6 +8,14 @@ decimal n =
     cond (nat_le 1000 n) ((48 + n / 1000) ∷ (48 + n / 100 % 10) ∷ (48 + n / 10 % 10) ∷ (48 + n % 10) ∷ [])
     (cond (nat_le 100 n) ((48 + n / 100) ∷ (48 + n / 10 % 10) ∷ (48 + n % 10) ∷ [])
     (cond (nat_le 10 n) ((48 + n / 10) ∷ (48 + n % 10) ∷ []) ((48 + n) ∷ [])))
+
+-- a digit, if it is shown
+abbrev pub digit_if : Bool → ℕ → List ℕ
+digit_if shown d = if shown then (48 + d) ∷ [] else []
+
+-- a number below a hundred thousand in decimal, without leading zeros
+abbrev pub digits : ℕ → List ℕ
+digits n = digit_if (nat_le 10000 n) (n / 10000) ++ (digit_if (nat_le 1000 n) (n / 1000 % 10) ++ (digit_if (nat_le 100 n) (n / 100 % 10) ++ (digit_if (nat_le 10 n) (n / 10 % 10) ++ (48 + n % 10) ∷ [])))
 
 -- two texts with a comma between them, where both have something
 abbrev pub comma : List ℕ → List ℕ → List ℕ

@@ -4,6 +4,7 @@ pub mod LassoLines
 pub mod LassoTexts
 pub mod Lassos
 pub mod MarkFields
+pub mod Parts
 pub mod Readings
 pub mod Rounds
 pub mod ScanLaws

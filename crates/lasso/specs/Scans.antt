@@ -5,6 +5,8 @@ use Rattle.document.specs.Texts.{pieces}
 use Rattle.lasso.specs.Lassos.{IsLasso}
 use Rattle.lasso.specs.LassoLines.{AllRead, FirstFault}
 use Rattle.lasso.specs.LassoTexts.{lasso_text}
+use Rattle.lasso.specs.Parts.{is_stem}
+use Rattle.lasso.specs.declared.part.Part.TheVariants.{Loop}
 use Rattle.lasso.specs.declared.scan.ScanFault.{ScanFault}
 use Rattle.lasso.specs.declared.scan.ScanFault.TheVariants.{Line, NotLasso, Places}
 use Rattle.lasso.specs.declared.scan.StepLine.{StepLine}
@@ -12,7 +14,7 @@ use Rattle.lasso.specs.declared.scan.Scanned.{Scanned}
 use Rattle.lasso.specs.declared.step.Step.{Step}
 
 abbrev pub in_stem_at : List StepLine → ℕ → Bool
-in_stem_at ss i = (slice_index_or ss i (record { step = record { state = 0; action = 0; marks = 0 }; in_stem = false })).in_stem
+in_stem_at ss i = is_stem (slice_index_or ss i (record { step = record { state = 0; action = 0; marks = 0 }; part = Loop })).part
 
 -- no loop line, if there is any line; a stem line after a loop line; or above 131,072 lines
 abbrev pub SpellsNoLasso : List StepLine → Type 0

@@ -3,6 +3,8 @@
 
 pub mod decimal;
 pub mod judge;
+pub mod lasso;
+mod part;
 pub mod print;
 pub mod scan;
 pub mod step;

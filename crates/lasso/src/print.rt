@@ -1,145 +1,140 @@
 // Writing a lasso's text: a line for each step.
-ghost use Rattle.std.specs.Prelude.{◌≡◌, ◌+◌, ◌^◌, ◌<◌, ◌≤◌, cond, [], ◌∷◌, length, if◌then◌else◌, codes, MatchOption, slice_set, IfNone};
+ghost use Rattle.std.specs.Prelude.{◌≡◌, ◌+◌, ◌^◌, ◌<◌, ◌≤◌, cond, [], ◌∷◌, length, if◌then◌else◌, codes, MatchOption, IfNone};
 ghost use Rattle.std.specs.List.{AllByRecursion};
 ghost use Rattle.program.specs.Names.{Named, spelled};
 ghost use Rattle.document.specs.Kept.{names_of};
 ghost use Rattle.lasso.specs.DeclaredNames.{acts_of, props_of};
 ghost use Rattle.lasso.specs.Lassos.{IsLasso};
-ghost use Rattle.lasso.specs.LassoTexts.{decimal, joined, marked, worded_line, worded_lasso, lasso_text};
-ghost use Rattle.lasso.specs.Written.{written, Printed};
+ghost use Rattle.lasso.specs.LassoTexts.{digits, joined, marked, worded_line, worded_lasso, lasso_text};
+ghost use Rattle.lasso.specs.Parts.{is_stem};
+ghost use Rattle.lasso.specs.Written.{written, Wrote, Printed};
 
+use crate::part::Part;
 use crate::step::Step;
-use crate::until::bit;
 use document::declared::Declared;
 use document::document::Document;
 use document::names::Names;
+use program::masks;
 use program::name::Name;
 
-// Writes a byte at a place, if the text has that place. Answers the next place.
-fn put(text: &mut [u8], at: usize, byte: u8) -> usize
-    requires { at < 2 ^ 40 }
-    ensures next { result ≡ at + 1 }
-    ensures text { text.new ≡ slice_set text.old at byte }
-{
-    if at < text.len() {
-        text[at] = byte;
+// A text that is written from its first byte on; what comes after its end is only counted.
+#[derive(Drop)]
+struct Writer<'a> {
+    text: &'a mut [u8],
+    at: usize,
+}
+
+impl Writer<'_> {
+    fn byte(&mut self, byte: u8)
+        requires { self.old.at < 2 ^ 40 }
+        ensures { Wrote self.old self.new (byte ∷ []) }
+    {
+        if self.at < self.text.len() {
+            self.text[self.at] = byte;
+        }
+        self.at += 1;
     }
-    at + 1
-}
 
-fn put_word(text: &mut [u8], at: usize, word: &[u8]) -> usize
-    requires { (at < 2 ^ 39) × (length word.now ≤ 16) }
-    ensures next { result ≡ at + length word.now }
-    ensures text { text.new ≡ written text.old at word.now }
-{
-    let mut next = at;
-    for k in 0..word.len() {
-        next = put(text, next, word[k]);
-    }
-    next
-}
-
-// `stem` or `loop`
-fn put_kind(text: &mut [u8], at: usize, in_stem: bool) -> usize
-    requires { at < 2 ^ 39 }
-    ensures next { result ≡ at + 4 }
-    ensures text { text.new ≡ written text.old at (cond in_stem (codes "stem") (codes "loop")) }
-{
-    if in_stem {
-        put_word(text, at, b"stem")
-    } else {
-        put_word(text, at, b"loop")
-    }
-}
-
-fn put_name(text: &mut [u8], at: usize, name: Name) -> usize
-    requires { at < 2 ^ 39 }
-    ensures next { result ≡ at + length (spelled name) }
-    ensures few { (at ≤ result) × (result ≤ at + 16) }
-    ensures text { text.new ≡ written text.old at (spelled name) }
-{
-    let mut next = at;
-    for k in 0..name.len() {
-        next = put(text, next, name.byte(k));
-    }
-    next
-}
-
-// A digit, left out where it is 0 and no other stands before it.
-fn put_digit(text: &mut [u8], at: usize, digit: u16, shown: bool) -> usize
-    requires { (at < 2 ^ 39) × (digit < 10) }
-    ensures few { (at ≤ result) × (result ≤ at + 1) }
-    ensures next { result ≡ at + length (if shown then (48 + digit) ∷ [] else []) }
-    ensures text { text.new ≡ written text.old at (if shown then (48 + digit) ∷ [] else []) }
-{
-    if shown {
-        put(text, at, b'0' + digit as u8)
-    } else {
-        at
-    }
-}
-
-// A state in decimal, without leading zeros.
-fn put_state(text: &mut [u8], at: usize, state: u16) -> usize
-    requires { at < 2 ^ 38 }
-    ensures few { (at ≤ result) × (result ≤ at + 5) }
-    ensures next { state < 10000 → result ≡ at + length (decimal state) }
-    ensures text { state < 10000 → text.new ≡ written text.old at (decimal state) }
-{
-    let myriads = put_digit(text, at, state / 10000, state >= 10000);
-    let thousands = put_digit(text, myriads, state / 1000 % 10, state >= 1000);
-    let hundreds = put_digit(text, thousands, state / 100 % 10, state >= 100);
-    let tens = put_digit(text, hundreds, state / 10 % 10, state >= 10);
-    put_digit(text, tens, state % 10, true)
-}
-
-// A name, after a comma if it is not the first.
-fn put_mark(text: &mut [u8], at: usize, name: Name, first: bool) -> usize
-    requires { at + 1 < 2 ^ 39 }
-    ensures next { result ≡ at + length (if first then spelled name else 44 ∷ spelled name) }
-    ensures few { result ≤ at + 17 }
-    ensures text { text.new ≡ written text.old at (if first then spelled name else 44 ∷ spelled name) }
-{
-    if first {
-        return put_name(text, at, name);
-    }
-    let next = put(text, at, b',');
-    put_name(text, next, name)
-}
-
-// Marks in proposition order joined by commas, or `-`.
-fn put_marks(text: &mut [u8], at: usize, props: &Names, marks: u16) -> usize
-    requires { (at < 2 ^ 38) × (props.now.count ≤ 16) }
-    ensures next { result ≡ at + length (joined (marked (names_of props.now) 0 marks)) }
-    ensures few { (at ≤ result) × (result ≤ at + 273) }
-    ensures text { text.new ≡ written text.old at (joined (marked (names_of props.now) 0 marks)) }
-{
-    let mut next = at;
-    let mut first = true;
-    for p in 0..props.count() {
-        if bit(marks as u64, p) {
-            next = put_mark(text, next, props.at(p), first);
-            first = false;
+    fn word(&mut self, word: &[u8])
+        requires { (self.old.at < 2 ^ 39) × (length word.now ≤ 16) }
+        ensures { Wrote self.old self.new word.now }
+    {
+        for byte in word {
+            self.byte(*byte);
         }
     }
-    if first { put(text, next, b'-') } else { next }
-}
 
-// The line of one step.
-fn put_step(text: &mut [u8], at: usize, declared: &Declared, step: Step, in_stem: bool) -> usize
-    requires { at < 2 ^ 37 }
-    ensures few { (at ≤ result) × (result ≤ at + 302) }
-    ensures next { step.state < 10000 → step.action < declared.now.acts.count → result ≡ at + length (worded_line (acts_of declared.now) (props_of declared.now) in_stem step) }
-    ensures text { step.state < 10000 → step.action < declared.now.acts.count → text.new ≡ written text.old at (worded_line (acts_of declared.now) (props_of declared.now) in_stem step) }
-{
-    let kind = put_kind(text, at, in_stem);
-    let kind_end = put(text, kind, b'\t');
-    let action = put_name(text, kind_end, declared.acts().at(step.action as usize));
-    let action_end = put(text, action, b'\t');
-    let state = put_state(text, action_end, step.state);
-    let state_end = put(text, state, b'\t');
-    let marks = put_marks(text, state_end, &declared.props(), step.marks);
-    put(text, marks, b'\n')
+    // `stem` or `loop`
+    fn part(&mut self, part: Part)
+        requires { self.old.at < 2 ^ 39 }
+        ensures { Wrote self.old self.new (cond (is_stem part) (codes "stem") (codes "loop")) }
+    {
+        match part {
+            Part::Stem => self.word(b"stem"),
+            Part::Loop => self.word(b"loop"),
+        }
+    }
+
+    fn name(&mut self, name: Name)
+        requires { self.old.at < 2 ^ 39 }
+        ensures few { self.new.at ≤ self.old.at + 16 }
+        ensures wrote { Wrote self.old self.new (spelled name) }
+    {
+        self.word(name.as_bytes());
+    }
+
+    // A digit, left out where it is 0 and no other stands before it.
+    fn digit(&mut self, digit: u16, shown: bool)
+        requires { (self.old.at < 2 ^ 39) × (digit < 10) }
+        ensures few { self.new.at ≤ self.old.at + 1 }
+        ensures wrote { Wrote self.old self.new (if shown then (48 + digit) ∷ [] else []) }
+    {
+        if shown {
+            self.byte(b'0' + digit as u8);
+        }
+    }
+
+    // A state in decimal, without leading zeros.
+    // Kept: digit by digit and not by `write!`. The count `at` must not overflow, so each method here requires room, and a
+    // `write_str` of `fmt::Write` can require nothing.
+    fn state(&mut self, state: u16)
+        requires { self.old.at < 2 ^ 38 }
+        ensures few { self.new.at ≤ self.old.at + 5 }
+        ensures wrote { Wrote self.old self.new (digits state) }
+    {
+        self.digit(state / 10000, state >= 10000);
+        self.digit(state / 1000 % 10, state >= 1000);
+        self.digit(state / 100 % 10, state >= 100);
+        self.digit(state / 10 % 10, state >= 10);
+        self.digit(state % 10, true);
+    }
+
+    // A name, after a comma if it is not the first.
+    fn mark(&mut self, name: Name, first: bool)
+        requires { self.old.at + 1 < 2 ^ 39 }
+        ensures few { self.new.at ≤ self.old.at + 17 }
+        ensures wrote { Wrote self.old self.new (if first then spelled name else 44 ∷ spelled name) }
+    {
+        if !first {
+            self.byte(b',');
+        }
+        self.name(name);
+    }
+
+    // Marks in proposition order joined by commas, or `-`.
+    fn marks(&mut self, props: &Names, marks: u16)
+        requires { (self.old.at < 2 ^ 38) × (props.now.count ≤ 16) }
+        ensures few { self.new.at ≤ self.old.at + 273 }
+        ensures wrote { Wrote self.old self.new (joined (marked (names_of props.now) 0 marks)) }
+    {
+        let mut first = true;
+        for p in 0..props.count() {
+            if masks::has(marks as u64, p) {
+                self.mark(props.at(p), first);
+                first = false;
+            }
+        }
+        if first {
+            self.byte(b'-');
+        }
+    }
+
+    // The line of one step.
+    fn step(&mut self, declared: &Declared, part: Part, step: Step)
+        requires { self.old.at < 2 ^ 37 }
+        ensures same { self.new.text.ghost_name ≡ self.old.text.ghost_name }
+        ensures few { self.new.at ≤ self.old.at + 302 }
+        ensures wrote { step.state < 10000 → step.action < declared.now.acts.count → Wrote self.old self.new (worded_line (acts_of declared.now) (props_of declared.now) (is_stem part) step) }
+    {
+        self.part(part);
+        self.byte(b'\t');
+        self.name(declared.acts().at(step.action as usize));
+        self.byte(b'\t');
+        self.state(step.state);
+        self.byte(b'\t');
+        self.marks(declared.props(), step.marks);
+        self.byte(b'\n');
+    }
 }
 
 // Writes as much of the lasso's text as there is room for. Answers the length of all of it.
@@ -149,14 +144,16 @@ fn write(document: &Document, steps: &[Step], stem: usize, text: &mut [u8]) -> u
     ensures text { IsLasso document.now.declared.acts.count document.now.declared.props.count steps.now stem → text.new ≡ written text.old 0 (worded_lasso (acts_of document.now.declared) (props_of document.now.declared) steps.now stem) }
 {
     let declared = document.declared();
-    let mut at = 0;
-    for i in 0..steps.len() {
-        at = put_step(text, at, &declared, steps[i], i < stem);
+    let mut out = Writer { text, at: 0 };
+    for (i, step) in steps.iter().enumerate() {
+        out.step(&declared, Part::at(i, stem), *step);
     }
-    at
+    out.at
 }
 
 // Writes the lasso's text into the first bytes, and answers its length; where it does not fit, nothing is written.
+// Kept: steps and stem and no `Lasso`: any steps are written, also none, and a stem past the last; a `Lasso` would
+// refuse those.
 pub fn print(document: &Document, steps: &[Step], stem: usize, text: &mut [u8]) -> Option<usize>
     requires { length steps.now ≤ 131072 }
     ensures untouched { IfNone result (text.new ≡ text.old) }

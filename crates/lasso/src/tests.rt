@@ -1,5 +1,6 @@
 // Examples: untils on short lassos, and lasso texts.
 use crate::judge::judge;
+use crate::lasso::Lasso;
 use crate::print::print;
 use crate::scan::{ScanFault, scan};
 use crate::step::Step;
@@ -23,14 +24,13 @@ const MARKED: Step = Step {
 
 // The verdict on a lasso without a stem, of up to four steps.
 fn verdict(text: &[u8], steps: &[Step]) -> Result<bool, Fail> {
-    let Ok(document) = load(text) else {
-        return Err(Fail::new("no document"));
-    };
-    if steps.len() > 4 || !is_lasso(&document, steps, 0) {
+    let document = load(text)?;
+    let lasso = Lasso::of(&document, steps, 0).ok_or("no lasso")?;
+    let mut work = [0; 8];
+    if steps.len() > 4 {
         return Err(Fail::new("no lasso"));
     }
-    let mut work = [0; 8];
-    Ok(judge(&document, steps, 0, &mut work))
+    Ok(judge(&document, lasso, &mut work))
 }
 
 #[test]
@@ -55,10 +55,10 @@ fn true_now(rt: HostRuntime) -> Result<(), Fail> {
 
 // A document with two actions and two propositions.
 fn recorder() -> Result<Document, Fail> {
-    match load(b"act\tarm\nact\tstop\nprop\trecording\nprop\tsaved\nform\tyes\ttrue\ngoal\tyes\n") {
-        Ok(document) => Ok(document),
-        Err(_) => Err(Fail::new("no document")),
-    }
+    let document = load(
+        b"act\tarm\nact\tstop\nprop\trecording\nprop\tsaved\nform\tyes\ttrue\ngoal\tyes\n",
+    )?;
+    Ok(document)
 }
 
 #[test]
@@ -66,9 +66,7 @@ fn scanned_and_printed(rt: HostRuntime) -> Result<(), Fail> {
     let document = recorder()?;
     let text = b"stem\tarm\t0\t-\nloop\tstop\t3\trecording\nloop\tarm\t12\trecording,saved\n";
     let mut steps = [BARE; 3];
-    let Ok(read) = scan(&document, text, &mut steps) else {
-        return Err(Fail::new("refused"));
-    };
+    let read = scan(&document, text, &mut steps)?;
     assert_eq!(rt; read.steps, 3);
     assert_eq!(rt; read.stem, 1);
     assert_eq!(rt; steps[2].state, 12);
@@ -77,9 +75,7 @@ fn scanned_and_printed(rt: HostRuntime) -> Result<(), Fail> {
         return Err(Fail::new("no lasso"));
     }
     let mut copy = [0; 63];
-    let Some(len) = print(&document, &steps, read.stem, &mut copy) else {
-        return Err(Fail::new("no room"));
-    };
+    let len = print(&document, &steps, read.stem, &mut copy).ok_or("no room")?;
     assert_eq!(rt; len, text.len());
     assert!(rt; copy == *text);
     Ok(())
@@ -99,11 +95,11 @@ fn refused(rt: &impl Abort, text: &[u8], code: u8, line: usize) -> Result<(), Fa
         Err(ScanFault::NotLasso) => {
             assert_eq!(rt; code, 12);
             Ok(())
-        },
+        }
         Err(ScanFault::Places) => {
             assert_eq!(rt; code, 9);
             Ok(())
-        },
+        }
     }
 }
 

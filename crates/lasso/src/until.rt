@@ -2,20 +2,13 @@
 ghost use Rattle.std.specs.Prelude.{◌≡◌, ℕ, ◌+◌, ◌*◌, ◌<◌, ◌↔◌, length, slice_index};
 ghost use Rattle.program.specs.Masks.{Bit};
 ghost use Rattle.lasso.specs.Rounds.{next_place, LeadsBy, Enters, Reaches, Rounded};
-ghost use Rattle.lasso.specs.Sessions.{bit_of};
 
-use crate::step::Step;
+use crate::lasso::Lasso;
 use program::automaton::Automaton;
+use program::masks;
 
-// Whether bit e of a word is set.
-pub fn bit(word: u64, e: usize) -> bool
-    requires { e < 64 }
-    ensures { result ≡ bit_of word e }
-{
-    (word >> e) % 2 == 1
-}
-
-// The step after step i.
+// The step after step i, of `len` steps.
+// Kept: a public function of its own; the method of `Lasso` calls it.
 pub fn after(i: usize, len: usize, stem: usize) -> usize
     requires { (i < len) × (stem < len) }
     ensures is { result ≡ next_place len stem i }
@@ -24,12 +17,12 @@ pub fn after(i: usize, len: usize, stem: usize) -> usize
     if i + 1 < len { i + 1 } else { stem }
 }
 
+// Makes each word 0.
+// Kept: a public function of one call; its clause speaks of the words one by one.
 pub fn clear(words: &mut [u64])
     ensures { (k : ℕ) → k < length words.old → slice_index words.new k ≡ 0 }
 {
-    for w in words.iter_mut() {
-        *w = 0;
-    }
+    words.fill(0);
 }
 
 // The states that lead by the action to a state of `next`.
@@ -45,7 +38,8 @@ fn leading(automaton: &Automaton, action: u8, next: u64) -> u16
     states
 }
 
-// The states that a step enters: final ones where g is true, and, where f is true, those that lead by the action to a state of the step after.
+// The states that a step enters: final ones where g is true, and, where f is true, those that lead by the action to a
+// state of the step after.
 fn entered(automaton: &Automaton, action: u8, f: bool, g: bool, next: u64) -> u16
     ensures { (q : ℕ) → Bit result q ↔ Enters automaton.now action f g next q }
 {
@@ -59,55 +53,56 @@ fn entered(automaton: &Automaton, action: u8, f: bool, g: bool, next: u64) -> u1
 }
 
 // The two operands of an until.
-#[derive(Clone, Copy)]
+#[derive(Clone, Copy, PartialEq, Eq, Debug)]
 pub struct Operands {
     pub f: usize,
     pub g: usize,
 }
 
 // One round: each step's states anew from those of the step after, from the last step back.
+// Kept: truths and states are lent apart, each with its length; a struct of both would have every method say that it
+// keeps the lasso and the words that it only reads.
 fn round(
     automaton: &Automaton,
     operands: Operands,
-    steps: &[Step],
-    stem: usize,
+    lasso: Lasso,
     truths: &[u64],
     states: &mut [u64],
 )
     requires operands { (operands.f < 64) × (operands.g < 64) }
-    requires stem { stem < length steps.now }
-    requires truths { length truths.now ≡ length steps.now }
-    requires states { length states.old ≡ length steps.now }
-    ensures { Rounded automaton.now steps.now stem truths.now operands.f operands.g states.old 0 states.new }
+    requires truths { length truths.now ≡ length lasso.steps.now }
+    requires states { length states.old ≡ length lasso.steps.now }
+    ensures { Rounded automaton.now lasso.entry.steps.now lasso.entry.stem truths.now operands.f operands.g states.old 0 states.new }
 {
-    for i in (0..steps.len()).rev() {
-        let f = bit(truths[i], operands.f);
-        let g = bit(truths[i], operands.g);
-        let next = states[after(i, steps.len(), stem)];
-        states[i] = entered(automaton, steps[i].action, f, g, next) as u64;
+    // Kept: a range. Tried: steps, truths and `states.iter_mut()` zipped and reversed, with the states of the step after
+    // carried along; what such a loop has written is not known after it.
+    for i in (0..lasso.steps.len()).rev() {
+        let f = masks::has(truths[i], operands.f);
+        let g = masks::has(truths[i], operands.g);
+        let next = states[lasso.after(i)];
+        states[i] = entered(automaton, lasso.steps[i].action, f, g, next) as u64;
     }
 }
 
-// Rounds until the loop's first step no longer changes: then no other step does. Each round but the last adds a state there.
+// Rounds until the loop's first step no longer changes: then no other step does. Each round but the last adds a state
+// there.
 pub fn fixed_point(
     automaton: &Automaton,
     operands: Operands,
-    steps: &[Step],
-    stem: usize,
+    lasso: Lasso,
     truths: &[u64],
     states: &mut [u64],
 )
     requires operands { (operands.f < 64) × (operands.g < 64) }
-    requires stem { stem < length steps.now }
-    requires truths { length truths.now ≡ length steps.now }
-    requires states { length states.old ≡ length steps.now }
-    ensures { (i q : ℕ) → i < length steps.now → Bit (slice_index states.new i) q ↔ Reaches automaton.now steps.now stem truths.now operands.f operands.g i q }
+    requires truths { length truths.now ≡ length lasso.steps.now }
+    requires states { length states.old ≡ length lasso.steps.now }
+    ensures { (i q : ℕ) → i < length lasso.entry.steps.now → Bit (slice_index states.new i) q ↔ Reaches automaton.now lasso.entry.steps.now lasso.entry.stem truths.now operands.f operands.g i q }
 {
     clear(states);
     loop {
-        let before = states[stem];
-        round(automaton, operands, steps, stem, truths, states);
-        if states[stem] == before {
+        let before = states[lasso.stem];
+        round(automaton, operands, lasso, truths, states);
+        if states[lasso.stem] == before {
             return;
         }
     }

@@ -26,10 +26,5 @@ pub fn is_lasso(document: &Document, steps: &[Step], stem: usize) -> bool
     let declared = document.declared();
     let acts = declared.acts().count();
     let props = declared.props().count();
-    for i in 0..steps.len() {
-        if !step_fits(acts, props, steps[i]) {
-            return false;
-        }
-    }
-    true
+    steps.iter().all(|step| step_fits(acts, props, *step))
 }

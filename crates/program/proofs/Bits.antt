@@ -1,11 +1,11 @@
 -- The bits of masks.
-use Rattle.std.proofs.Common.{◌≡◌, ℕ, suc, ◌+◌, ◌-◌, ◌/◌, ◌%◌, ◌^◌, ◌<◌, ◌≤◌, min, max, ◌⊎◌, ◌↔◌, List, length, get_or, set, sym, ap, ◌∙◌, subst, inl, inr, ⊎_elim, pow-suc, arith, pow_mono}
+use Rattle.std.proofs.Common.{◌≡◌, ℕ, Bool, true, false, eqb, suc, ◌+◌, ◌-◌, ◌/◌, ◌%◌, ◌^◌, ◌<◌, ◌≤◌, min, max, ◌⊎◌, ◌↔◌, List, length, get_or, set, sym, ap, ◌∙◌, subst, inl, inr, ⊎_elim, pow-suc, arith, pow_mono}
 use native.Mathlib.Nat.{div-eq_of_lt, div_self}
 use lib.Bits.{bit_and, bit_or, and_step, or_step, and_shr, or_shr, and_mask}
 use lib.Pow.{mod-mod-pow}
 use Rattle.std.proofs.lemmas.Nat.{field_of, mod_below, pow-add, pow_below, pow_pos, shl-shr}
 use Rattle.std.proofs.lemmas.List.{get_or-set_same, get_or-set_other}
-use Rattle.std.proofs.lemmas.Bool.{cases_eq, cases_lt, cases_order}
+use Rattle.std.proofs.lemmas.Bool.{cases_eq, cases_lt, cases_order, eqb-true, eqb-false}
 use Rattle.program.specs.Masks.{Bit}
 
 odd_or : (x y : ℕ) → bit_or x y % 2 ≡ max (x % 2) (y % 2)
@@ -91,3 +91,10 @@ bit_more xs i m k n h =
 -- a shift and a mask read one bit
 pub bit_read : (m n : ℕ) → bit_and (m / 2 ^ n) 1 ≡ m / 2 ^ n % 2
 bit_read m n = and_mask (m / 2 ^ n) 1
+
+-- what the test of a bit says of a mask that was widened
+pub has_bit : (m n w : ℕ) (b : Bool) → w ≡ m → b ≡ eqb (w / 2 ^ n % 2) 1 → b ≡ true → Bit m n
+has_bit m n w b e h t = eqb-true (m / 2 ^ n % 2) 1 (ap (λ v. eqb (v / 2 ^ n % 2) 1) (sym e) ∙ sym h ∙ t)
+
+pub has_no_bit : (m n w : ℕ) (b : Bool) → w ≡ m → b ≡ eqb (w / 2 ^ n % 2) 1 → b ≡ false → Bit m n → ⊥
+has_no_bit m n w b e h t = eqb-false (m / 2 ^ n % 2) 1 (ap (λ v. eqb (v / 2 ^ n % 2) 1) (sym e) ∙ sym h ∙ t)

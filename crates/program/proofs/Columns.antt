@@ -1,15 +1,12 @@
 -- Where the checker stops is the column of the fault.
-use Rattle.std.proofs.Common.{◌≡◌, ℕ, ◌+◌, ◌<◌, ◌≤◌, true, false, not, ◌&&◌, eqb, List, [], ◌∷◌, ◌++◌, length, get_or, take, drop, Some, None, sym, refl, ap, ◌∙◌, subst, arith}
+use Rattle.std.proofs.Common.{◌≡◌, ℕ, ◌+◌, ◌<◌, ◌≤◌, true, false, not, eqb, List, [], ◌∷◌, ◌++◌, length, get_or, take, drop, Some, None, sym, refl, ap, ◌∙◌, subst, arith}
 use Rattle.std.proofs.lemmas.List.{append_assoc, take-append-drop, take-take, take_all, take_more}
 use Rattle.std.proofs.lemmas.Bool.{eqb-true, and_parts, not-true}
-use Rattle.program.specs.Steps.{stand, stepped}
+use Rattle.program.specs.Steps.{start, is_due, whole, stepped}
 use Rattle.program.specs.Text.{WellFormed, Begun, FaultAt}
 use Rattle.program.specs.declared.check.Prefix.{Prefix}
 use Rattle.program.proofs.Goes.{Goes, goes_on, refused, at_end}
-use Rattle.program.proofs.Prefixes.{Known, known, at_start, whole, begun}
-
-abbrev start : Prefix
-start = stand true 0 0
+use Rattle.program.proofs.Prefixes.{Known, known, at_start, whole_text, begun}
 
 pub begun_shorter : (text : List ℕ) (at k : ℕ) → k ≤ at → Begun (take at text) → Begun (take k text)
 begun_shorter text at k h b =
@@ -21,18 +18,15 @@ goes_more text at s m h g e =
     subst (λ v. Goes start v m) (sym (take_more text at 0 h)) (goes_on (take at text) (get_or text at 0 ∷ []) start s m g (m, e, refl))
 
 goes_begun : (bs : List ℕ) (s : Prefix) → Goes start bs s → Begun bs
-goes_begun bs s g = begun s.due bs s.depth s.name (known bs [] start s at_start g)
+goes_begun bs s g = begun s.place bs s.depth (known bs [] start s at_start g)
 
-pub ends_whole : (text : List ℕ) (at : ℕ) (s : Prefix) → length text ≤ at → Goes start (take at text) s → (not s.due && eqb s.depth 0) ≡ true → WellFormed text
+pub ends_whole : (text : List ℕ) (at : ℕ) (s : Prefix) → length text ≤ at → Goes start (take at text) s → whole s ≡ true → WellFormed text
 ends_whole text at s h g w =
-    let k : Known text s.due s.depth s.name = known text [] start s at_start (subst (λ v. Goes start v s) (take_all at text h) g) in
-    let p = and_parts (not s.due) (eqb s.depth 0) w in
-    let a = not-true s.due p.0 in
-    let b = eqb-true s.depth 0 p.1 in
-    whole text s.name (subst (λ v. Known text false v s.name) b (subst (λ v. Known text v s.depth s.name) a k))
+    let k : Known text s.place s.depth = known text [] start s at_start (subst (λ v. Goes start v s) (take_all at text h) g) in
+    let p = and_parts (not (is_due s.place)) (eqb s.depth 0) w in
+    whole_text text s.place (not-true (is_due s.place) p.0) (subst (Known text s.place) (eqb-true s.depth 0 p.1) k)
 
-pub ends_early : (text : List ℕ) (at : ℕ) (s : Prefix) → at ≤ length text → length text ≤ at → Goes start (take at text) s →
-    (not s.due && eqb s.depth 0) ≡ false → FaultAt text (at + 1)
+pub ends_early : (text : List ℕ) (at : ℕ) (s : Prefix) → at ≤ length text → length text ≤ at → Goes start (take at text) s → whole s ≡ false → FaultAt text (at + 1)
 ends_early text at s l h g w =
     record {
       within = omega arith;
@@ -42,7 +36,7 @@ ends_early text at s l h g w =
           let e = at_end text s (subst (λ v. Goes start v s) (take_all at text h) g) wf in
           let a = e.0 in
           let b = e.1 in
-          let t : (not s.due && eqb s.depth 0) ≡ true = rw (a, b) refl in
+          let t : whole s ≡ true = rw (a, b) refl in
           let z : ◌≡◌ {A = ℕ} 0 1 = cc in
           omega arith;
     }

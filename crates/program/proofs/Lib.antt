@@ -7,6 +7,7 @@ pub mod Factors
 pub mod Glushkov
 pub mod Goes
 pub mod Machine
+pub mod Maps
 pub mod Parts
 pub mod Places
 pub mod Prefixes

@@ -1,8 +1,7 @@
 -- A text from one of its places on.
-use Rattle.std.proofs.Common.{◌≡◌, ℕ, zero, suc, ◌+◌, ◌-◌, ◌<◌, ◌≤◌, true, false, List, [], ◌∷◌, ◌++◌, length, get_or, take, drop, replicate, sym, refl, ap, ◌∙◌, subst, ⊎_elim, add-zero, arith}
-use Rattle.std.proofs.lemmas.List.Prefix.{at_reads}
-use Rattle.std.proofs.lemmas.List.{drop_at, drop-drop, drop_more, take_at, get_or-drop, get_or-replicate, length-append, length-drop, length-replicate}
-use Rattle.std.proofs.lemmas.Bool.{cases_order, both_ways}
+use Rattle.std.proofs.Common.{◌≡◌, ℕ, zero, suc, ◌+◌, ◌-◌, ◌<◌, ◌≤◌, Bool, true, false, eqb, List, [], ◌∷◌, ◌++◌, length, get_or, take, drop, replicate, sym, refl, ap, ◌∙◌, subst, ⊎_elim, add-zero, arith}
+use Rattle.std.proofs.lemmas.List.{drop_at, drop-drop, drop_more, take_at, get_or-drop, get_or-replicate, get_or_append_left, get_or-append_right, length-append, length-drop, length-replicate}
+use Rattle.std.proofs.lemmas.Bool.{cases_order, both_ways, eqb-true, eq-eqb}
 use Rattle.program.specs.Names.{naming, Named}
 use Rattle.program.specs.Reading.{Unnamed, Ends}
 use Rattle.program.specs.Text.{factor}
@@ -35,50 +34,50 @@ abbrev pub Halts : (ℕ → Type 0) → List ℕ → Type 0
 Halts P [] = Unit {0}
 Halts P (c ∷ bs) = P c → ⊥
 
--- where the bytes of P end
-pub run_end : (P : ℕ → Type 0) (text bs rest : List ℕ) (at r : ℕ) → at ≤ r → r ≤ length text
-    → ((k : ℕ) → at ≤ k → k < r → P (get_or text k 0))
-    → (r < length text → P (get_or text r 0) → ⊥)
-    → ((k : ℕ) → k < length bs → P (get_or bs k 0))
-    → drop at text ≡ bs ++ rest → Halts P rest → r ≡ at + length bs
-run_end P text bs rest at r low high all stops each e halts =
-    let size = inside text bs rest at (omega arith) e in
+-- P holds of the first r bytes, and not of the next
+pub record RunOf (P : ℕ → Type 0) (xs : List ℕ) (r : ℕ) : Type 0 where
+  pub within : r ≤ length xs
+  pub all : (k : ℕ) → k < r → P (get_or xs k 0)
+  pub stops : r < length xs → P (get_or xs r 0) → ⊥
+
+pub run_of : (p : ℕ → Bool) (xs : List ℕ) (r : ℕ) → r ≤ length xs → ((k : ℕ) → k < r → true ≡ p (get_or xs k 0)) → (r < length xs → false ≡ p (get_or xs r 0)) → RunOf (λ c. p c ≡ true) xs r
+run_of p xs r within all stops = record { within = within; all = λ k h. sym (all k h); stops = λ h t. both_ways (p (get_or xs r 0)) (sym (stops h)) t }
+
+pub run_end : (P : ℕ → Type 0) (bs rest : List ℕ) (r : ℕ) → RunOf P (bs ++ rest) r → ((k : ℕ) → k < length bs → P (get_or bs k 0)) → Halts P rest → r ≡ length bs
+run_end P bs rest r run each halts =
+    let long = length-append bs rest in
     ⊎_elim (λ same. same)
     (⊎_elim
-    (λ short.
-    let k = r - at in
-    let i : at + k ≡ r = omega arith in
-    absurd (stops (omega arith) (subst P (sym (at_reads 0 text bs at rest e k (omega arith)) ∙ ap (λ v. get_or text v 0) i) (each k (omega arith)))))
-    (λ long.
-    let i = at + length bs in
-    let s = seen text i (get_or text i 0) (omega arith) refl in
-    absurd (subst (Halts P) (sym (past text bs rest at e) ∙ s) halts (all i (omega arith) long))))
-    (cases_order r (at + length bs))
+    (λ short. absurd (run.stops (omega (arith, long)) (subst P (sym (get_or_append_left bs rest 0 r short)) (each r short))))
+    (λ past. absurd (stands rest halts (omega (arith, long, run.within)) (subst P (get_or-append_right bs rest (length bs) (length bs) 0 refl (omega arith)) (run.all (length bs) past)))))
+    (cases_order r (length bs))
+  where
+    stands : (rest : List ℕ) → Halts P rest → 0 < length rest → P (get_or rest (length bs - length bs) 0) → ⊥
+    stands [] h l p = omega arith
+    stands (c ∷ rest) h l p = let z : length bs - length bs ≡ 0 = omega arith in h (subst (λ k. P (get_or (c ∷ rest) k 0)) z p)
 
 -- where a name ends
-pub word_end : (text bs rest : List ℕ) (at r : ℕ) → at ≤ r → r ≤ length text
-    → ((k : ℕ) → at ≤ k → k < r → naming (get_or text k 0) ≡ true)
-    → (r < length text → naming (get_or text r 0) ≡ true → ⊥)
-    → Named bs → drop at text ≡ bs ++ rest → Unnamed rest → r ≡ at + length bs
-word_end text bs rest at r low high all stops n e un = run_end (λ c. naming c ≡ true) text bs rest at r low high all stops n.rest e (halts rest un)
+pub word_end : (xs bs rest : List ℕ) (r : ℕ) → RunOf (λ c. naming c ≡ true) xs r → Named bs → xs ≡ bs ++ rest → Unnamed rest → r ≡ length bs
+word_end xs bs rest r run n e un = run_end (λ c. naming c ≡ true) bs rest r (subst (λ v. RunOf (λ c. naming c ≡ true) v r) e run) n.rest (halts rest un)
   where
     halts : (rest : List ℕ) → Unnamed rest → Halts (λ c. naming c ≡ true) rest
     halts [] h = tt
     halts (c ∷ bs) h = both_ways (naming c) h
 
-pub word_is : (text bs rest : List ℕ) (at r : ℕ) → r ≡ at + length bs → drop at text ≡ bs ++ rest → take (r - at) (drop at text) ≡ bs
-word_is text bs rest at r i e =
-    let n : r - at ≡ length bs = omega arith in
-    ap (λ v. take v (drop at text)) n ∙ ap (take (length bs)) e ∙ take_at bs rest (length bs) refl
+pub word_is : (xs bs rest : List ℕ) (r : ℕ) → r ≡ length bs → xs ≡ bs ++ rest → take r xs ≡ bs
+word_is xs bs rest r i e = ap (take r) e ∙ take_at bs rest r (sym i)
+
+-- the stars at the front of what is left
+pub stars_of : (xs left : List ℕ) (r : ℕ) → left ≡ xs → RunOf (λ c. eqb c 42 ≡ true) left r → RunOf (λ c. c ≡ 42) xs r
+stars_of xs left r e run =
+    subst (λ v. RunOf (λ c. c ≡ 42) v r) e
+    (record { within = run.within; all = λ k h. eqb-true _ 42 (run.all k h); stops = λ h i. run.stops h (eq-eqb _ 42 i) })
 
 -- where the stars end
-pub stars_end : (text rest : List ℕ) (k at r : ℕ) → at ≤ r → r ≤ length text
-    → ((k : ℕ) → at ≤ k → k < r → get_or text k 0 ≡ 42)
-    → (r < length text → get_or text r 0 ≡ 42 → ⊥)
-    → drop at text ≡ replicate k 42 ++ rest → Ends factor rest → r ≡ at + k
-stars_end text rest k at r low high all stops e ends =
+pub stars_end : (xs rest : List ℕ) (k r : ℕ) → RunOf (λ c. c ≡ 42) xs r → xs ≡ replicate k 42 ++ rest → Ends factor rest → r ≡ k
+stars_end xs rest k r run e ends =
     let long : length (replicate {A = ℕ} k 42) ≡ k = length-replicate k 42 in
-    omega (arith, run_end (λ c. c ≡ 42) text (replicate k 42) rest at r low high all stops (λ j h. get_or-replicate k j 42 0 (omega arith)) e (halts rest ends))
+    run_end (λ c. c ≡ 42) (replicate k 42) rest r (subst (λ v. RunOf (λ c. c ≡ 42) v r) e run) (λ j h. get_or-replicate k j 42 0 (omega arith)) (halts rest ends) ∙ long
   where
     halts : (rest : List ℕ) → Ends factor rest → Halts (λ c. c ≡ 42) rest
     halts [] h = tt

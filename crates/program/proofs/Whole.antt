@@ -6,7 +6,7 @@ use Rattle.program.specs.Automata.{names}
 use Rattle.program.specs.Faults.{MalformedBy}
 use Rattle.program.specs.Masks.{Bit}
 use Rattle.program.specs.Programs.{Means, SpellsProgram, SpellsRow, Refused}
-use Rattle.program.specs.Reading.{ReadAs, ReadsPart}
+use Rattle.program.specs.Reading.{ReadAs}
 use Rattle.program.specs.Text.{Tree, leaf, choice, chain, repeat, sum, WellFormed}
 use Rattle.program.specs.Words.{Program}
 use Rattle.program.specs.declared.fault.ProgramFault.{ProgramFault}
@@ -15,6 +15,7 @@ use Rattle.program.specs.declared.name.Name.{Name}
 use Rattle.program.specs.declared.row.Draft.{Draft}
 use Rattle.program.specs.declared.row.Part.{Part}
 use Rattle.program.proofs.Bits.{bit_none}
+use Rattle.program.proofs.Readers.{PartAt}
 
 abbrev pub blank : Draft
 blank = record { names = 0; actions = replicate 16 0; follow = replicate 16 0 }
@@ -44,21 +45,21 @@ module _ (acts : List Name) where
       rw m.4 (two_below (names m.0) (names m.1) (length acts) (names_below s m.0 m.2) (names_below t m.1 m.3) k)
   names_below (repeat t) p m k = rw m.2 (names_below t m.0 m.1 k)
 
-module _ (text : List ℕ) (acts : List Name) (old new : Draft) (from : old ≡ blank) (well : WellFormed text) where
+module _ (text : List ℕ) (acts : List Name) (to : ℕ) (old new : Draft) (from : old ≡ blank) (well : WellFormed text) where
   -- a name is not declared
-  pub whole_err : (f : ProgramFault) → ReadsPart sum text 0 acts old new (Err f) → Refused text acts f
+  pub whole_err : (f : ProgramFault) → PartAt sum text 0 acts old to new (Err f) → Refused text acts f
   whole_err f reads =
       let u = reads text [] well.0 (0, well.1) (sym (append-nil text)) tt in
       subst (Refused text acts) (sym u.0) (well, λ p m. (reads text [] m.0 (0, m.1) (sym (append-nil text)) tt).1 p m.2)
 
-  module _ (l : Part) (reads : ReadsPart sum text 0 acts old new (Ok l)) where
-    whole : ReadAs acts well.0 (0 + length text) blank new l
-    whole = subst (λ d. ReadAs acts well.0 (0 + length text) d new l) from (reads text [] well.0 (0, well.1) (sym (append-nil text)) tt)
+  module _ (l : Part) (reads : PartAt sum text 0 acts old to new (Ok l)) where
+    whole : ReadAs acts well.0 (0 + length text) to blank new l
+    whole = subst (λ d. ReadAs acts well.0 (0 + length text) to d new l) from (reads text [] well.0 (0, well.1) (sym (append-nil text)) tt)
 
     spells : SpellsProgram text acts whole.program
     spells = (well.0, well.1, whole.means)
 
-    pub whole_end : l.«end» ≡ length text
+    pub whole_end : to ≡ length text
     whole_end = omega (arith, whole.reaches)
 
     pub whole_many : 15 < new.names → (p : Program) × SpellsProgram text acts p × (15 < length (names p))

@@ -1,5 +1,5 @@
 -- What the readers of a text's parts give. Internal: what they are for is said in Programs.
-use Rattle.std.specs.Prelude.{◌≡◌, ℕ, suc, ◌+◌, ◌%◌, ◌<◌, ◌≤◌, false, ◌⊎◌, List, [], ◌∷◌, ◌++◌, length, drop, Result, MatchResult, ◌≢◌, slice_index}
+use Rattle.std.specs.Prelude.{◌≡◌, ℕ, suc, ◌+◌, ◌%◌, ◌<◌, ◌≤◌, false, ◌⊎◌, List, [], ◌∷◌, ◌++◌, length, drop, Result, MatchResult, slice_index}
 use Rattle.program.specs.Automata.{names, nullable, First, Last, Follow}
 use Rattle.program.specs.Masks.{Bit, Marks}
 use Rattle.program.specs.Names.{naming, Named}
@@ -9,6 +9,7 @@ use Rattle.program.specs.Words.{Program}
 use Rattle.program.specs.declared.fault.ProgramFault.{ProgramFault}
 use Rattle.program.specs.declared.fault.ProgramFault.TheVariants.{Undeclared}
 use Rattle.program.specs.declared.name.Name.{Name}
+use Rattle.program.specs.declared.read.Reader.{Reader}
 use Rattle.program.specs.declared.row.Draft.{Draft}
 use Rattle.program.specs.declared.row.Part.{Part}
 
@@ -50,11 +51,11 @@ Ends sequence (c ∷ bs) = (c ≡ 41) ⊎ (c ≡ 43)
 Ends sum [] = Unit {0}
 Ends sum (c ∷ bs) = c ≡ 41
 
--- the program that the tree means was read up to a place
-pub record ReadAs (acts : List Name) (t : Tree) (to : ℕ) (old new : Draft) (part : Part) : Type 0 where
+-- the program that the tree means was read, and the reader came to a place
+pub record ReadAs (acts : List Name) (t : Tree) (to at : ℕ) (old new : Draft) (part : Part) : Type 0 where
   pub program : Program
   pub means : Means acts t program
-  pub reaches : part.end ≡ to
+  pub reaches : at ≡ to
   pub masks : PartOf program (old.names + 1) part
   pub entered : Entered program old new
 
@@ -62,30 +63,58 @@ pub record ReadAs (acts : List Name) (t : Tree) (to : ℕ) (old new : Draft) (pa
 abbrev pub Unread : List Name → Tree → ProgramFault → Type 0
 Unread acts t f = (f ≡ Undeclared) × ((p : Program) → Means acts t p → ⊥)
 
--- what a reader at a place gives, where a part S stands that does not go on
-abbrev pub Reads : (List ℕ → Tree → Type 0) → (List ℕ → Type 0) → List ℕ → ℕ → List Name → Draft → Draft → Result Part ProgramFault → Type 0
-Reads S E text at acts old new r =
+-- what a reader at a place gives, where a part S stands that does not go on, and at what place it then is
+abbrev pub ReadsAt : (List ℕ → Tree → Type 0) → (List ℕ → Type 0) → List ℕ → ℕ → List Name → Draft → ℕ → Draft → Result Part ProgramFault → Type 0
+ReadsAt S E text at acts old after new r =
     (bs rest : List ℕ) (t : Tree)
     → S bs t
     → drop at text ≡ bs ++ rest
     → E rest
-    → MatchResult r (ReadAs acts t (at + length bs) old new) (Unread acts t)
+    → MatchResult r (ReadAs acts t (at + length bs) after old new) (Unread acts t)
+
+-- the same of the reader, before and after
+abbrev pub Reads : (List ℕ → Tree → Type 0) → (List ℕ → Type 0) → Reader → Reader → Result Part ProgramFault → Type 0
+Reads S E old new = ReadsAt S E old.text.now old.at old.acts.now old.draft new.at new.draft
+
+-- a name or a sum in parentheses, at some depth
+abbrev pub AnAtom : List ℕ → Tree → Type 0
+AnAtom bs t = (d : ℕ) × Atom d bs t
+
+-- a part of the kind, at some depth
+abbrev pub APart : Kind → List ℕ → Tree → Type 0
+APart k bs t = (d : ℕ) × Spells k d bs t
+
+abbrev pub AWord : List ℕ → Tree → Type 0
+AWord bs t = Named bs × (t ≡ leaf bs)
 
 -- where a name or a sum in parentheses stands
-abbrev pub ReadsAtom : List ℕ → ℕ → List Name → Draft → Draft → Result Part ProgramFault → Type 0
-ReadsAtom = Reads (λ bs t. (d : ℕ) × Atom d bs t) Unnamed
+abbrev pub ReadsAtom : Reader → Reader → Result Part ProgramFault → Type 0
+ReadsAtom = Reads AnAtom Unnamed
 
 -- where a factor, a sequence or a sum stands
-abbrev pub ReadsPart : Kind → List ℕ → ℕ → List Name → Draft → Draft → Result Part ProgramFault → Type 0
-ReadsPart k = Reads (λ bs t. (d : ℕ) × Spells k d bs t) (Ends k)
+abbrev pub ReadsPart : Kind → Reader → Reader → Result Part ProgramFault → Type 0
+ReadsPart k = Reads (APart k) (Ends k)
 
 -- where a name stands
-abbrev pub ReadsWord : List ℕ → ℕ → List Name → Draft → Draft → Result Part ProgramFault → Type 0
-ReadsWord = Reads (λ bs t. Named bs × (t ≡ leaf bs)) Unnamed
+abbrev pub ReadsWord : Reader → Reader → Result Part ProgramFault → Type 0
+ReadsWord = Reads AWord Unnamed
+
+-- the byte stands at a place
+abbrev pub At : List ℕ → ℕ → ℕ → Type 0
+At text at c = (at < length text) × (slice_index text at ≡ c)
+
+-- the byte stands at the reader's place
+abbrev pub Sees : Reader → ℕ → Type 0
+Sees reader c = At reader.text.now reader.at c
+
+-- it goes on in the same text, over the same actions
+pub record SameTexts (old new : Reader) : Type 0 where
+  pub text : new.text ≡ old.text
+  pub acts : new.acts ≡ old.acts
 
 -- the sum that was read, one byte further where its closing parenthesis stands
-abbrev pub ClosedOff : List ℕ → Part → Result Part ProgramFault → Type 0
-ClosedOff text l r =
+abbrev pub ClosedOff : Reader → Reader → Part → Result Part ProgramFault → Type 0
+ClosedOff old new inside r =
     MatchResult r
-    (λ p. (p.«end» ≡ l.«end» + 1) × (p.«end» ≤ length text) × (p.nullable ≡ l.nullable) × (p.first ≡ l.first) × (p.last ≡ l.last))
-    (λ f. l.«end» < length text → slice_index text l.«end» ≢ 41)
+    (λ part. (new.at ≡ old.at + 1) × (new.draft ≡ old.draft) × (part ≡ inside))
+    (λ f. Sees old 41 → ⊥)

@@ -1,13 +1,15 @@
 // The automaton of a program: states 0 to its number of names, at most 16, and a mask of target states for each state and action.
-ghost use Rattle.std.specs.Prelude.{◌≡◌, ℕ, ◌-◌, ◌/◌, ◌%◌, ◌^◌, ◌<◌, ◌≤◌, ◌&&◌, ◌↔◌, ◌==◌, bit_and, nat_lt, slice_index};
+ghost use Rattle.std.specs.Prelude.{◌≡◌, ℕ, ◌/◌, ◌%◌, ◌^◌, ◌<◌, ◌≤◌, ◌&&◌, ◌↔◌, ◌==◌, map, bit_and, nat_lt, slice_index};
 ghost use Rattle.program.specs.Laws.{AcceptsItsWords, AcceptsByParts, NullableIsEmpty};
 ghost use Rattle.program.specs.Masks.{Bit, cell};
 ghost use Rattle.program.specs.Rows.{RowOf};
 ghost use Rattle.program.specs.Tables.{AutomatonOf, AcceptsWordsOf};
 ghost use Rattle.program.specs.Words.{Program};
 
+use crate::masks;
 use crate::row::Row;
 
+// Kept: arrays and no `Vec`, since an automaton lies in fixed memory and is passed by value.
 #[derive(Clone, Copy)]
 pub struct Automaton {
     states: usize,
@@ -18,26 +20,14 @@ pub struct Automaton {
     ghost steps: { (i k : ℕ) → i < 16 → k < 16 → cell next i k < 2 ^ states },
 }
 
-// The mask of the first `states` states.
-fn all_of(states: usize) -> u16
-    requires { states ≤ 16 }
-    ensures { result ≡ 2 ^ states - 1 }
-{
-    if states == 16 {
-        0xffff
-    } else {
-        (1 << states) - 1
-    }
-}
-
 // The names of each action.
 fn named(row: &Row) -> [u16; 16]
     ensures { (a n : ℕ) → a < 16 → n < 16 → Bit (slice_index result a) n ↔ ((1 ≤ n) × (slice_index row.now.actions n ≡ a)) }
 {
     let mut named = [0; 16];
-    for i in 1..16 {
-        let action = row.actions[i] as usize;
-        if action < 16 {
+    for (i, action) in row.actions.iter().enumerate() {
+        let action = usize::from(*action);
+        if i >= 1 && action < 16 {
             named[action] |= 1 << i;
         }
     }
@@ -46,13 +36,9 @@ fn named(row: &Row) -> [u16; 16]
 
 // Where each action leads, from a state that the names of `follow` follow.
 fn targets_by(follow: u16, named: &[u16; 16], all: u16) -> [u16; 16]
-    ensures { (k : ℕ) → k < 16 → slice_index result k ≡ bit_and (bit_and follow (slice_index named.now k)) all }
+    ensures { result ≡ map (λ names. bit_and (bit_and follow names) all) named.now }
 {
-    let mut row = [0; 16];
-    for k in 0..16 {
-        row[k] = follow & named[k] & all;
-    }
-    row
+    named.map(|names| follow & names & all)
 }
 
 impl Automaton {
@@ -63,14 +49,15 @@ impl Automaton {
         ensures laws { (AcceptsItsWords) × ((AcceptsByParts) × (NullableIsEmpty)) }
     {
         let states = row.states();
-        let all = all_of(states);
+        let all = masks::lowest(states);
         let named = named(row);
-        let mut next = [[0; 16]; 16];
+        let mut next = row.follow.map(
+            |follow|
+                ensures { result ≡ map (λ names. bit_and (bit_and follow names) all) named }
+            { targets_by(follow, &named, all) },
+        );
         next[0] = targets_by(row.first, &named, all);
-        for i in 1..16 {
-            next[i] = targets_by(row.follow[i], &named, all);
-        }
-        let start = if row.nullable { 1 } else { 0 };
+        let start = u16::from(row.nullable);
         Automaton {
             states,
             next,
@@ -110,6 +97,6 @@ impl Automaton {
     pub fn is_final(&self, state: usize) -> bool
         ensures { result ≡ (nat_lt state 16 && self.now.finals / 2 ^ state % 2 == 1) }
     {
-        state < 16 && (self.finals >> state) % 2 == 1
+        state < 16 && masks::has(u64::from(self.finals), state)
     }
 }

@@ -1,45 +1,55 @@
 // The checker of prefixes: it reads a text byte by byte and stops where no program can go on so.
-ghost use Rattle.std.specs.Prelude.{◌≡◌, true, not, ◌&&◌, MatchResult, ◌==◌};
+ghost use Rattle.std.specs.Prelude.{◌≡◌, MatchResult};
 ghost use Rattle.program.specs.Faults.{MalformedBy};
-ghost use Rattle.program.specs.Steps.{stand, operated, starred, opened, shut, lengthened, lettered, stepped};
+ghost use Rattle.program.specs.Steps.{start, whole, followed, opened, shut, lengthened, lettered, stepped};
 ghost use Rattle.program.specs.Text.{WellFormed};
 
 use crate::fault::ProgramFault;
 
-// Where the reader stands: whether a factor is due, how many parentheses are open, and how long the name is that is being read (0 outside a name).
-#[derive(Clone, Copy)]
+// Where the reader stands among the parts of a text.
+#[derive(Clone, Copy, PartialEq, Eq, Debug)]
+pub enum Place {
+    // A factor is due.
+    Due,
+    // In a name, of which so many bytes are read.
+    Name(u8),
+    // Behind a star or a closing parenthesis.
+    Behind,
+}
+
+// What is known behind the bytes read: how many parentheses are open, and the place.
+#[derive(Clone, Copy, PartialEq, Eq, Debug)]
 pub struct Prefix {
-    due: bool,
     depth: u8,
-    name: u8,
+    place: Place,
 }
 
 impl Prefix {
     // Before the first byte.
     pub fn start() -> Prefix
-        ensures { result ≡ stand true 0 0 }
+        ensures { result ≡ start }
     {
         Prefix {
-            due: true,
             depth: 0,
-            name: 0,
+            place: Place::Due,
         }
     }
 
     // Whether the bytes read are a whole program.
     pub fn is_whole(self) -> bool
-        ensures { result ≡ (not self.due && self.depth == 0) }
+        ensures { result ≡ whole self }
     {
-        !self.due && self.depth == 0
+        self.place != Place::Due && self.depth == 0
     }
 
     // After one more character, or none where no program goes on so.
+    // Kept: the byte is read as a char and matched against the literals of the syntax, as the project asks.
     pub fn step(self, c: char) -> Option<Prefix>
         ensures { result ≡ stepped self c }
     {
         match c {
-            '+' | ';' => self.operator(),
-            '*' => self.star(),
+            '+' | ';' => self.after_factor(Place::Due),
+            '*' => self.after_factor(Place::Behind),
             '(' => self.open(),
             ')' => self.close(),
             'a'..='z' => self.letter(),
@@ -48,83 +58,63 @@ impl Prefix {
         }
     }
 
-    fn operator(self) -> Option<Prefix>
-        ensures { result ≡ operated self }
+    // The reader stands at `place` after a byte that only follows a factor.
+    fn after_factor(self, place: Place) -> Option<Prefix>
+        ensures { result ≡ followed place self }
     {
-        if self.due {
-            return None;
+        match self.place {
+            Place::Due => None,
+            Place::Name(_) | Place::Behind => Some(Prefix { place, ..self }),
         }
-        Some(Prefix {
-            due: true,
-            depth: self.depth,
-            name: 0,
-        })
-    }
-
-    fn star(self) -> Option<Prefix>
-        ensures { result ≡ starred self }
-    {
-        if self.due {
-            return None;
-        }
-        Some(Prefix {
-            due: false,
-            depth: self.depth,
-            name: 0,
-        })
     }
 
     fn open(self) -> Option<Prefix>
         ensures { result ≡ opened self }
     {
-        if !self.due || self.depth >= 8 {
-            return None;
+        match self.place {
+            Place::Due if self.depth < 8 => Some(Prefix {
+                depth: self.depth + 1,
+                place: Place::Due,
+            }),
+            _ => None,
         }
-        Some(Prefix {
-            due: true,
-            depth: self.depth + 1,
-            name: 0,
-        })
     }
 
     fn close(self) -> Option<Prefix>
         ensures { result ≡ shut self }
     {
-        if self.due || self.depth == 0 {
-            return None;
+        match self.place {
+            Place::Name(_) | Place::Behind if self.depth > 0 => Some(Prefix {
+                depth: self.depth - 1,
+                place: Place::Behind,
+            }),
+            _ => None,
         }
-        Some(Prefix {
-            due: false,
-            depth: self.depth - 1,
-            name: 0,
-        })
     }
 
     // A letter begins a name where a factor is due, and goes on with one elsewhere.
     fn letter(self) -> Option<Prefix>
         ensures { result ≡ lettered self }
     {
-        if self.due {
-            return Some(Prefix {
-                due: false,
-                depth: self.depth,
-                name: 1,
-            });
+        match self.place {
+            Place::Due => Some(Prefix {
+                place: Place::Name(1),
+                ..self
+            }),
+            Place::Name(_) | Place::Behind => self.naming(),
         }
-        self.naming()
     }
 
     fn naming(self) -> Option<Prefix>
         ensures { result ≡ lengthened self }
     {
-        if self.due || self.name == 0 || self.name >= 16 {
-            return None;
+        match self.place {
+            Place::Name(len) if len < 16 => Some(Prefix {
+                place: Place::Name(len + 1),
+                ..self
+            }),
+            _ => None,
         }
-        Some(Prefix {
-            due: false,
-            depth: self.depth,
-            name: self.name + 1,
-        })
     }
 }
 
@@ -135,7 +125,9 @@ pub fn check(text: &[u8]) -> Result<(), ProgramFault>
 {
     let mut at = 0;
     let mut prefix = Prefix::start();
-    let column = 'read: loop {
+    // Kept: a labelled loop that is left with the place of the fault, as the project asks: at the text's end, or at a byte
+    // that no program goes on with.
+    let end = 'read: loop {
         if at >= text.len() {
             if prefix.is_whole() {
                 return Ok(());
@@ -148,5 +140,5 @@ pub fn check(text: &[u8]) -> Result<(), ProgramFault>
         }
         at += 1;
     };
-    Err(ProgramFault::Malformed { column: column + 1 })
+    Err(ProgramFault::Malformed { column: end + 1 })
 }

@@ -4,6 +4,7 @@
 pub mod automaton;
 pub mod check;
 pub mod fault;
+pub mod masks;
 pub mod name;
 pub mod read;
 pub mod row;

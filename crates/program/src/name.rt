@@ -3,7 +3,8 @@ ghost use Rattle.std.specs.Prelude.{◌≡◌, ◌≤◌, map, length, Decides, 
 ghost use Rattle.program.specs.Names.{letter, naming, Named, spelled, Absent, Number};
 ghost use Rattle.program.specs.Spellings.{Missing, NumberIn};
 
-#[derive(Clone, Copy)]
+// Kept: an array with a count and no `String`, since names lie in a document's fixed memory.
+#[derive(Clone, Copy, Debug, Default)]
 pub struct Name {
     bytes: [u8; 16],
     len: usize,
@@ -25,18 +26,12 @@ pub fn is_naming(b: u8) -> bool
 pub fn is_name(field: &[u8]) -> bool
     ensures { Decides result (Named field.now) }
 {
-    if field.len() == 0 || field.len() > 16 {
-        return false;
-    }
-    if !is_letter(field[0]) {
-        return false;
-    }
-    for k in 0..field.len() {
-        if !is_naming(field[k]) {
-            return false;
+    match field {
+        [] => false,
+        [first, ..] => {
+            field.len() <= 16 && is_letter(*first) && field.iter().all(|b| is_naming(*b))
         }
     }
-    true
 }
 
 impl Name {
@@ -44,13 +39,11 @@ impl Name {
     pub fn blank() -> Name
         ensures { result.len ≡ 0 }
     {
-        Name {
-            bytes: [0; 16],
-            len: 0,
-        }
+        Name::default()
     }
 
     // The name that the field spells, if it is well formed.
+    // Kept: an Option and no `TryFrom`: there is one reason for none, and each caller has its own fault for it.
     pub fn read(field: &[u8]) -> Option<Name>
         ensures { MatchOption result (Named field.now → ⊥) (λ n. Named field.now × (spelled n ≡ field.now)) }
     {
@@ -58,42 +51,41 @@ impl Name {
             return None;
         }
         let mut bytes = [0; 16];
-        for k in 0..field.len() {
-            bytes[k] = field[k];
-        }
+        bytes[..field.len()].copy_from_slice(field);
         Some(Name {
             bytes,
             len: field.len(),
         })
     }
 
+    // The bytes of the name.
+    pub fn as_bytes(&self) -> &[u8]
+        ensures is { result.now ≡ spelled self.now }
+        ensures few { length result.now ≤ 16 }
+    {
+        &self.bytes[..self.len.min(16)]
+    }
+
+    // Kept: this and `byte` are public as before; the bytes are read by `as_bytes`.
     pub fn len(&self) -> usize
         ensures is { result ≡ length (spelled self.now) }
         ensures few { result ≤ 16 }
     {
-        if self.len < 16 { self.len } else { 16 }
+        self.as_bytes().len()
     }
 
     // The byte at a place below the length.
     pub fn byte(&self, k: usize) -> u8
         ensures { result ≡ slice_index (spelled self.now) k }
     {
-        if k < self.len() { self.bytes[k] } else { 0 }
+        self.as_bytes().get(k).copied().unwrap_or(0)
     }
 
     // Whether the field spells this name.
     pub fn is(&self, field: &[u8]) -> bool
         ensures { Decides result (spelled self.now ≡ field.now) }
     {
-        if field.len() != self.len() {
-            return false;
-        }
-        for k in 0..field.len() {
-            if self.byte(k) != field[k] {
-                return false;
-            }
-        }
-        true
+        self.as_bytes() == field
     }
 }
 
@@ -102,10 +94,5 @@ pub fn find(names: &[Name], field: &[u8]) -> Option<usize>
     ensures is { MatchOption result (Absent names.now (length names.now) field.now) (λ i. Number names.now field.now i) }
     ensures by_bytes { MatchOption result (Missing (map spelled names.now) field.now) (λ i. NumberIn (map spelled names.now) field.now i) }
 {
-    for i in 0..names.len() {
-        if names[i].is(field) {
-            return Some(i);
-        }
-    }
-    None
+    names.iter().position(|name| name.is(field))
 }

@@ -7,10 +7,14 @@ ghost use Rattle.program.specs.Reading.{PartOf, Entered, Joined};
 ghost use Rattle.program.specs.RowStates.{states_in};
 ghost use Rattle.program.specs.Words.{Program, act, either as either-of, seq, star};
 
-#[derive(Clone, Copy)]
+use crate::masks;
+
+// Kept: arrays with a count and no `Vec`, since a row lies in a document's fixed memory. Names stand at places 1 to `names`.
+#[derive(Clone, Copy, PartialEq, Eq, Debug, Default)]
 pub struct Row {
     pub names: u8,
     pub actions: [u8; 16],
+    // Whether the empty word is one of the program's words.
     pub nullable: bool,
     pub first: u16,
     pub last: u16,
@@ -22,14 +26,7 @@ impl Row {
     pub fn blank() -> Row
         ensures { result.names ≡ 0 }
     {
-        Row {
-            names: 0,
-            actions: [0; 16],
-            nullable: false,
-            first: 0,
-            last: 0,
-            follow: [0; 16],
-        }
+        Row::default()
     }
 
     // How many states its automaton has: one for each name after state 0.
@@ -38,76 +35,64 @@ impl Row {
         ensures bound { (1 ≤ result) × (result ≤ 16) }
         ensures count { self.now.names < 16 → result ≡ self.now.names + 1 }
     {
-        if self.names < 16 {
-            self.names as usize + 1
-        } else {
-            16
-        }
+        usize::from(self.names).min(15) + 1
     }
 }
 
-// A part of a program that was read, up to the byte at `end`.
-#[derive(Clone, Copy)]
+// A part of a program that was read.
+#[derive(Clone, Copy, PartialEq, Eq, Debug)]
 pub struct Part {
+    // Whether the empty word is one of the part's words.
     pub nullable: bool,
     pub first: u16,
     pub last: u16,
-    pub end: usize,
 }
 
 // The names of a mask, and those of another where `also` says so.
-fn with(mask: u16, more: u16, also: bool) -> u16
+fn joined_if(mask: u16, more: u16, also: bool) -> u16
     ensures { result ≡ (if also then bit_or mask more else mask) }
 {
-    if also {
-        return mask | more;
-    }
-    mask
+    if also { mask | more } else { mask }
 }
 
 impl Part {
     // One part or the other.
     pub fn either(self, right: Part) -> Part
-        ensures end { result.end ≡ right.end }
-        ensures is { (p q : Program) (i : ℕ) → PartOf p i self → PartOf q (i + length (names_of p)) right → PartOf (either-of p q) i result }
+        ensures { (p q : Program) (i : ℕ) → PartOf p i self → PartOf q (i + length (names_of p)) right → PartOf (either-of p q) i result }
     {
         Part {
             nullable: self.nullable || right.nullable,
             first: self.first | right.first,
             last: self.last | right.last,
-            end: right.end,
         }
     }
 
     // One part and then the other.
     pub fn then(self, right: Part) -> Part
-        ensures end { result.end ≡ right.end }
-        ensures is { (p q : Program) (i : ℕ) → PartOf p i self → PartOf q (i + length (names_of p)) right → PartOf (seq p q) i result }
+        ensures { (p q : Program) (i : ℕ) → PartOf p i self → PartOf q (i + length (names_of p)) right → PartOf (seq p q) i result }
     {
         Part {
             nullable: self.nullable && right.nullable,
-            first: with(self.first, right.first, self.nullable),
-            last: with(right.last, self.last, right.nullable),
-            end: right.end,
+            first: joined_if(self.first, right.first, self.nullable),
+            last: joined_if(right.last, self.last, right.nullable),
         }
     }
 
-    // Zero or more times, with its stars read up to `end`.
-    pub fn starred(self, end: usize) -> Part
-        ensures end { result.end ≡ end }
-        ensures is { (p : Program) (i : ℕ) → PartOf p i self → PartOf (star p) i result }
+    // Zero or more times.
+    pub fn starred(self) -> Part
+        ensures { (p : Program) (i : ℕ) → PartOf p i self → PartOf (star p) i result }
     {
         Part {
             nullable: true,
             first: self.first,
             last: self.last,
-            end,
         }
     }
 }
 
 // The names read so far. All are counted; the first 15 are kept.
-#[derive(Clone, Copy)]
+// Kept: arrays with a count and no `Vec`: a draft becomes a row, which holds the same arrays in fixed memory.
+#[derive(Clone, Copy, PartialEq, Eq, Debug)]
 pub struct Draft {
     pub names: usize,
     pub actions: [u8; 16],
@@ -145,9 +130,9 @@ impl Draft {
     pub fn connect(&mut self, from: u16, to: u16)
         ensures { Joined from to self.old self.new }
     {
-        for i in 1..16 {
-            if (from >> i) & 1 == 1 {
-                self.follow[i] |= to;
+        for (i, follow) in self.follow.iter_mut().enumerate() {
+            if i >= 1 && masks::has(u64::from(from), i) {
+                *follow |= to;
             }
         }
     }

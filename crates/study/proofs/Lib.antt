@@ -4,6 +4,5 @@ pub mod Examine
 pub mod GoalRuns
 pub mod GraphRight
 pub mod PairPaths
-pub mod Settled
 pub mod StandingGraph
 pub mod Written

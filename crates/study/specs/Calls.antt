@@ -1,5 +1,5 @@
 -- What each call does, as a relation of what was handed over, the study before and after, and the answer.
-use Rattle.std.specs.Prelude.{◌≡◌, ℕ, zero, suc, ◌+◌, ◌*◌, ◌<◌, ◌≤◌, Bool, true, false, ◌⊎◌, List, [], ◌∷◌, length}
+use Rattle.std.specs.Prelude.{◌≡◌, ℕ, zero, suc, ◌+◌, ◌*◌, ◌<◌, ◌≤◌, Bool, true, false, ◌⊎◌, List, [], ◌∷◌, length, Some, None, Option}
 use Rattle.document.specs.Documents.{Document}
 use Rattle.document.specs.Lines.{Declarations, document_of}
 use Rattle.document.specs.Outcomes as outcomes
@@ -30,10 +30,6 @@ pub data Report : Type 0 where
 pub record Growth : Type 0 where
   pub units : ℕ
   pub report : Report
-
-pub data Verdict : Type 0 where
-  found : Lasso → Verdict
-  none : Verdict
 
 -- a refusal by its code, or an answer
 pub data Answer (A : Type 0) : Type 0 where
@@ -74,13 +70,13 @@ abbrev pub DoesGrow : Places → Study → ℕ → Answer Growth → Study → T
 DoesGrow p blank b r s = (r ≡ refused 7) × (s ≡ blank)
 DoesGrow p (loaded d k t) b r s = (g : Growth) × (u : Tables) × (r ≡ gave g) × (s ≡ loaded d (k + g.units) u) × Grows p d k t b g u
 
-abbrev pub Decides : (Lasso → Type 0) → ℕ → Answer Verdict → Type 0
+abbrev pub Decides : (Lasso → Type 0) → ℕ → Answer (Option Lasso) → Type 0
 Decides P pairs (refused c) = ⊥
-Decides P pairs (gave (found l)) = P l × (length l.steps ≤ 2 * pairs)
-Decides P pairs (gave none) = (l : Lasso) → P l → ⊥
+Decides P pairs (gave (Some l)) = P l × (length l.steps ≤ 2 * pairs)
+Decides P pairs (gave None) = (l : Lasso) → P l → ⊥
 
 -- decide, with w work places and v step places
-abbrev pub DoesDecide : Study → ℕ → ℕ → Answer Verdict → Type 0
+abbrev pub DoesDecide : Study → ℕ → ℕ → Answer (Option Lasso) → Type 0
 DoesDecide blank w v r = r ≡ refused 7
 DoesDecide (loaded d k t) w v r =
     ((NoneLeft k t → ⊥) × (r ≡ refused 8))
@@ -89,7 +85,7 @@ DoesDecide (loaded d k t) w v r =
     × Decides (λ l. LassoOf d l × Meets d l) (length t.nodes) r)
 
 -- examine, of a system
-abbrev pub DoesExamine : Study → TransitionGraph → ℕ → ℕ → Answer Verdict → Type 0
+abbrev pub DoesExamine : Study → TransitionGraph → ℕ → ℕ → Answer (Option Lasso) → Type 0
 DoesExamine blank g w v r = r ≡ refused 7
 DoesExamine (loaded d k t) g w v r =
     ((NoneLeft k t → ⊥) × (r ≡ refused 8))
@@ -135,8 +131,8 @@ DoesAudit (loaded d k t) g h w r =
 pub data Event : Type 0 where
   load : List ℕ → Answer Document → Event
   grow : ℕ → Answer Growth → Event
-  decide : ℕ → ℕ → Answer Verdict → Event
-  examine : (g : TransitionGraph) → Lawful g → ℕ → ℕ → Answer Verdict → Event
+  decide : ℕ → ℕ → Answer (Option Lasso) → Event
+  examine : (g : TransitionGraph) → Lawful g → ℕ → ℕ → Answer (Option Lasso) → Event
   judge : Handed → ℕ → Answer Bool → Event
   audit : (g : TransitionGraph) → Lawful g → Handed → ℕ → Answer Bool → Event
   wipe : Event

@@ -3,9 +3,11 @@ pub mod GoalHeld
 pub mod Goals
 pub mod PairsLawful
 pub mod Promise
+pub mod ReadBy
 pub mod Readers
 pub mod Refusals
 pub mod Served
 pub mod Sessions
+pub mod Standing
 pub mod TextFaults
 pub mod Verdicts

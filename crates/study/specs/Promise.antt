@@ -5,7 +5,7 @@ use Rattle.lasso.specs.Readings.{Lasso, LassoOf, Meets}
 use Rattle.system.specs.TransitionGraph.{TransitionGraph}
 use Rattle.tableau.specs.Graphs.{Node, Tables, Lists, InGraph, Successor}
 use Rattle.study.specs.Sessions.{Session}
-use Rattle.study.specs.Calls.{Places, Study, Study.loaded, Event, Event.load, Event.grow, Event.decide, Event.examine, Event.judge, Event.audit, Event.wipe, Answer, Answer.refused, Answer.gave, Verdict, Verdict.found, Verdict.none, Growth, Report.complete, Handed, Units, empty, History, Does}
+use Rattle.study.specs.Calls.{Places, Study, Study.loaded, Event, Event.load, Event.grow, Event.decide, Event.examine, Event.judge, Event.audit, Event.wipe, Answer, Answer.refused, Answer.gave, Growth, Report.complete, Handed, Units, empty, History, Does}
 
 -- the goal that a list of calls, newest first, leaves loaded
 abbrev pub goal_after : List Event → Option Document
@@ -50,7 +50,7 @@ Wrote [] l = ⊥
 Wrote (load x r ∷ es) l = ⊥
 Wrote (wipe ∷ es) l = ⊥
 Wrote (grow b r ∷ es) l = Wrote es l
-Wrote (decide w v r ∷ es) l = (r ≡ gave (found l)) ⊎ Wrote es l
+Wrote (decide w v r ∷ es) l = (r ≡ gave (Some l)) ⊎ Wrote es l
 Wrote (examine g law w v r ∷ es) l = Wrote es l
 Wrote (judge h w r ∷ es) l = Wrote es l
 Wrote (audit g law h w r ∷ es) l = Wrote es l
@@ -61,15 +61,15 @@ WroteFrom g (load x r ∷ es) l = ⊥
 WroteFrom g (wipe ∷ es) l = ⊥
 WroteFrom g (grow b r ∷ es) l = WroteFrom g es l
 WroteFrom g (decide w v r ∷ es) l = WroteFrom g es l
-WroteFrom g (examine h law w v r ∷ es) l = ((h ≡ g) × (r ≡ gave (found l))) ⊎ WroteFrom g es l
+WroteFrom g (examine h law w v r ∷ es) l = ((h ≡ g) × (r ≡ gave (Some l))) ⊎ WroteFrom g es l
 WroteFrom g (judge h w r ∷ es) l = WroteFrom g es l
 WroteFrom g (audit h law k w r ∷ es) l = WroteFrom g es l
 
 -- found exactly when some lasso of any length is good
-abbrev pub FoundExactly : Answer Verdict → (Lasso → Type 0) → Type 0
+abbrev pub FoundExactly : Answer (Option Lasso) → (Lasso → Type 0) → Type 0
 FoundExactly (refused c) P = Unit {0}
-FoundExactly (gave (found l)) P = P l
-FoundExactly (gave none) P = (l : Lasso) → P l → ⊥
+FoundExactly (gave (Some l)) P = P l
+FoundExactly (gave None) P = (l : Lasso) → P l → ⊥
 
 abbrev pub YesTo : Answer Bool → Type 0 → Type 0
 YesTo (refused c) P = Unit {0}

@@ -2,8 +2,8 @@
 ghost use Rattle.std.specs.Prelude.{◌≡◌, ℕ, ◌+◌, ◌<◌, ◌≤◌, true, length, Decides};
 ghost use Rattle.study.specs.Sessions.{Goes, StepGoes, SessionSteps};
 
+use lasso::lasso::Lasso;
 use lasso::step::Step;
-use lasso::until::after;
 use system::system::System;
 
 // Whether the system has the move.
@@ -11,10 +11,9 @@ fn has_move<S: System>(system: S, state: usize, action: u8, target: usize) -> bo
     ensures { Decides result (Goes ((S.meaning system).moves state) action target) }
 {
     for k in 0..system.moves(state) {
-        if let Some(m) = system.move_at(state, k) {
-            if m.action == action && m.target == target {
-                return true;
-            }
+        let step = system.move_at(state, k);
+        if step.is_some_and(|m| m.action == action && m.target == target) {
+            return true;
         }
     }
     false
@@ -30,16 +29,17 @@ fn step_goes<S: System>(system: S, declared: u16, step: Step, next: u16) -> bool
 }
 
 // Whether the lasso is a session of the system.
-pub fn is_session<S: System>(system: S, declared: u16, steps: &[Step], stem: usize) -> bool
-    requires { stem < length steps.now }
-    ensures { Decides result (SessionSteps (S.meaning system) declared steps.now stem) }
+pub fn is_session<S: System>(system: S, declared: u16, lasso: Lasso) -> bool
+    ensures { Decides result (SessionSteps (S.meaning system) declared lasso.entry.steps.now lasso.entry.stem) }
 {
-    if !system.starts(steps[0].state as usize) {
+    if !system.starts(lasso.steps[0].state as usize) {
         return false;
     }
-    for i in 0..steps.len() {
-        let next = steps[after(i, steps.len(), stem)];
-        if !step_goes(system, declared, steps[i], next.state) {
+    // Kept: a `for` and no `all`. Tried: `all` over steps with their numbers. Its closure has to repeat the clause of
+    // `step_goes` for the step after and to require its number, and the proof is twice as long.
+    for (i, step) in lasso.steps.iter().enumerate() {
+        let next = lasso.steps[lasso.after(i)];
+        if !step_goes(system, declared, *step, next.state) {
             return false;
         }
     }

@@ -1,9 +1,11 @@
 // Why a call on a study is refused.
 ghost use Rattle.std.specs.Prelude.{◌≡◌};
 ghost use Rattle.study.specs.Refusals.{refusal_code};
-ghost use Rattle.study.specs.TextFaults.{text_code, text_line};
+ghost use Rattle.study.specs.TextFaults.{text_code, text_line, text_fault};
+ghost use Rattle.study.specs.declared.refusal.TextFault.TheVariants.{Refused};
 
-use document::fault::{LineAt, LineFault};
+use document::fault::LineAt;
+use lasso::scan::ScanFault;
 
 #[derive(Clone, Copy, PartialEq, Eq, Debug)]
 pub enum Refusal {
@@ -24,6 +26,7 @@ pub enum Refusal {
 }
 
 impl Refusal {
+    // Kept: programs print these numbers, and clauses name them.
     pub fn code(self) -> u8
         ensures { result ≡ refusal_code self }
     {
@@ -40,13 +43,34 @@ impl Refusal {
 }
 
 // Why a lasso text is refused.
-#[derive(Clone, Copy)]
+#[derive(Clone, Copy, PartialEq, Eq, Debug)]
 pub enum TextFault {
     Refused(Refusal),
     Line(LineAt),
 }
 
+impl From<Refusal> for TextFault {
+    ghost from_gives = { λ f r. r ≡ Refused f };
+
+    fn from(fault: Refusal) -> TextFault {
+        TextFault::Refused(fault)
+    }
+}
+
+impl From<ScanFault> for TextFault {
+    ghost from_gives = { λ f r. r ≡ text_fault f };
+
+    fn from(fault: ScanFault) -> TextFault {
+        match fault {
+            ScanFault::Line(at) => TextFault::Line(at),
+            ScanFault::NotLasso => TextFault::Refused(Refusal::NotLasso),
+            ScanFault::Places => TextFault::Refused(Refusal::Places),
+        }
+    }
+}
+
 impl TextFault {
+    // Kept: programs print these numbers, and clauses name them.
     pub fn code(self) -> u8
         ensures { result ≡ text_code self }
     {
@@ -57,6 +81,7 @@ impl TextFault {
     }
 
     // The line, or 0 where the text as a whole is refused.
+    // Kept: 0 and no Option, since programs print it so.
     pub fn line(self) -> usize
         ensures { result ≡ text_line self }
     {

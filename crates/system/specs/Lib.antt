@@ -3,5 +3,7 @@ pub mod Joint
 pub mod JointLawful
 pub mod Listed
 pub mod ListedLawful
+pub mod Moves
+pub mod Scan
 pub mod Seen
 pub mod TransitionGraph

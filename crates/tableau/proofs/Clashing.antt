@@ -5,7 +5,7 @@ use Rattle.document.specs.Documents.{Document, form_at}
 use Rattle.document.specs.declared.form.Form.{Form}
 use Rattle.document.specs.declared.form.Form.TheVariants.{True, Prop}
 use Rattle.tableau.specs.Calculus.{ClashesWith}
-use Rattle.tableau.specs.Graphs.{Sign, Sign.T, Sign.F, form, until_true, until_false, step_true, step_false}
+use Rattle.tableau.specs.Graphs.{Sign.T, Sign.F, form, until_true, until_false, step_true, step_false}
 use Rattle.tableau.specs.Numbers.{number_of, ClaimOf}
 use Rattle.tableau.specs.Successions.{Claims}
 
@@ -46,10 +46,6 @@ false_clash d N e (until_true h q l, own, m, inr a) = absurd a
 false_clash d N e (until_false h q, own, m, inr a) = absurd a
 false_clash d N e (step_true h q l, own, m, inr a) = absurd a
 false_clash d N e (step_false h q, own, m, inr a) = absurd a
-
--- claims of another sign with the set
-flipped : (d : Document) (e : ℕ) (s t : Sign) → ClaimOf d (form s e) → ClaimOf d (form t e)
-flipped d e s t h = h
 
 -- T and F of one form
 pub opposite_clash : (d : Document) (N : ℕ → Bool) (e : ℕ) (sign : Bool) → ClaimOf d (form (cond sign T F) e) → N (number_of d (form (cond (not sign) T F) e)) ≡ true → ClashesWith d N (form (cond sign T F) e)

@@ -1,10 +1,8 @@
 -- What a part of a unit enters, put together from its parts.
-use Rattle.std.proofs.Common.{◌≡◌, ℕ, ◌+◌, ◌/◌, ◌^◌, ◌<◌, ◌≤◌, Bool, true, false, ◌⊎◌, ◌↔◌, List, length, Some, None, Option, sym, refl, ap, ◌∙◌, subst, inl, inr, arith, MatchOption}
-use lib.Bits.{bit_and}
+use Rattle.std.proofs.Common.{◌≡◌, ℕ, ◌+◌, ◌<◌, ◌≤◌, Bool, true, false, ◌⊎◌, ◌↔◌, List, length, Some, None, Option, sym, refl, ap, ◌∙◌, subst, inl, inr, arith, MatchOption}
 use Rattle.std.proofs.lemmas.Bool.{cases_lt}
 use Rattle.std.proofs.lemmas.List.{get_or-set_same, get_or-set_other, length-set}
 use Rattle.program.specs.Masks.{Bit}
-use Rattle.program.proofs.Bits.{bit_read}
 use Rattle.document.specs.Documents.{Document}
 use Rattle.document.specs.declared.declared.Declared.{Declared}
 use Rattle.tableau.specs.Claims.{member, Same}
@@ -358,11 +356,11 @@ opened_node d x from closing first nodes edges u node nodes' k v edges' (Some w)
 
 -- the node of these claims for an action that does not clash with them
 pub new_node : (d : Document) (x : ℕ) (o : Origin) (claims : ClaimSet) (a allowed shows hides : ℕ) (closing : Bool) → a < d.acts → d.acts ≤ 16
-    → ((a : ℕ) → a < 16 → Bit allowed a ↔ Allowed d (member claims.words) a) → bit_and (allowed / 2 ^ a) 1 ≡ 1
+    → ((a : ℕ) → a < 16 → Bit allowed a ↔ Allowed d (member claims.words) a) → Bit allowed a
     → Closes d x o (member claims.words) closing → Tells d (member claims.words) T shows → Tells d (member claims.words) F hides
     → NewNode d x o (The claims.words) (record { action = a; phase = x; closing = closing; claims = claims; shows = shows; hides = hides; first_edge = 0; edge_count = 0 })
 new_node d x o claims a allowed shows hides closing lt few actions bit closes s h = record {
-  due = (member claims.words, λ c. refl, record { declared = lt; allowed = (actions a (omega arith)).0 (sym (bit_read allowed a) ∙ bit); phase = refl; closing = closes; claims = λ c. refl });
+  due = (member claims.words, λ c. refl, record { declared = lt; allowed = (actions a (omega arith)).0 bit; phase = refl; closing = closes; claims = λ c. refl });
   marked = record { shows = s; hides = h };
   unopened = (refl, refl);
 }

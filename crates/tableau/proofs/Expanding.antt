@@ -1,5 +1,5 @@
 -- What is reached from the first claims, and what is led to, are their expansions.
-use Rattle.std.proofs.Common.{◌≡◌, ℕ, ◌-◌, ◌<◌, Bool, true, false, cond, eqb, List, [], ◌∷◌, ◌++◌, set, Some, None, sym, refl, ◌∙◌, subst, arith}
+use Rattle.std.proofs.Common.{◌≡◌, ℕ, ◌-◌, ◌<◌, Bool, true, false, cond, eqb, List, [], ◌∷◌, ◌++◌, set, Some, None, sym, refl, ap, ◌∙◌, subst, arith}
 use Rattle.document.specs.Documents.{Document}
 use Rattle.document.specs.declared.declared.Declared.{Declared}
 use Rattle.tableau.specs.Calculus.{calculus}
@@ -32,19 +32,23 @@ none = record { nodes = 0; edges = 0 }
 first_ready : (held kept : Declared) (d : Document) → held ≡ kept → Shows kept d → Ready held d 0 First none
 first_ready held kept d is shows = record { shows = subst (λ h. Shows h d) (sym is) shows; phase = omega arith; begun = tt }
 
+-- no place is in use
+none_is : {u : Used} → u.nodes ≡ 0 → u.edges ≡ 0 → u ≡ none
+none_is {u} n e = ap (λ (v : ℕ). record { nodes = v; edges = u.edges }) n ∙ ap (λ (v : ℕ). record { nodes = 0; edges = v }) e
+
 -- the first unit, with room and without
-pub first_entered : (held kept : Declared) (goal aim : ℕ) (nodes nodes' : List Node) (edges edges' : List Edge) (u : Used) → held ≡ kept → goal ≡ aim
-    → EntersFirst held 0 First goal nodes edges none nodes' edges' (Some u) → FirstUnit kept aim nodes edges nodes' edges' (Some (record { units = 1; first = u.nodes; used = u }))
-first_entered held kept goal aim nodes nodes' edges edges' u is same h d shows aimed =
+pub first_entered : (held kept : Declared) (goal aim : ℕ) (nodes nodes' : List Node) (edges edges' : List Edge) (u : Used) {at : Used} → held ≡ kept → goal ≡ aim
+    → (at.nodes ≡ 0) × (at.edges ≡ 0) → EntersFirst held 0 First goal nodes edges at nodes' edges' (Some u) → FirstUnit kept aim nodes edges nodes' edges' (Some (record { units = 1; first = u.nodes; used = u }))
+first_entered held kept goal aim nodes nodes' edges edges' u is same at h d shows aimed =
     let m = calculus d 0 in
     let goal-is = same ∙ aimed in
-    let e = subst (λ v. EntersFirst held 0 First v nodes edges none nodes' edges' (Some u)) goal-is h d (first_ready held kept d is shows) shows.good.aimed in
+    let e = subst (λ v. EntersFirst held 0 First v nodes edges none nodes' edges' (Some u)) goal-is (subst (λ v. EntersFirst held 0 First goal nodes edges v nodes' edges' (Some u)) (none_is at.0 at.1) h) d (first_ready held kept d is shows) shows.good.aimed in
     (refl, entered_weaken (λ N p. reached_expands m (number_of d (says d 0 T d.goal) ∷ []) N p) (λ N p. expands_leads m (number_of d (says d 0 T d.goal) ∷ []) N p) e)
 
-pub first_over : (held kept : Declared) (goal aim : ℕ) (nodes nodes' : List Node) (edges edges' : List Edge) → held ≡ kept → goal ≡ aim
-    → EntersFirst held 0 First goal nodes edges none nodes' edges' None → FirstUnit kept aim nodes edges nodes' edges' None
-first_over held kept goal aim nodes nodes' edges edges' is same h d shows aimed =
-    let e = subst (λ v. EntersFirst held 0 First v nodes edges none nodes' edges' None) (same ∙ aimed) h d (first_ready held kept d is shows) shows.good.aimed in
+pub first_over : (held kept : Declared) (goal aim : ℕ) (nodes nodes' : List Node) (edges edges' : List Edge) {at : Used} → held ≡ kept → goal ≡ aim
+    → (at.nodes ≡ 0) × (at.edges ≡ 0) → EntersFirst held 0 First goal nodes edges at nodes' edges' None → FirstUnit kept aim nodes edges nodes' edges' None
+first_over held kept goal aim nodes nodes' edges edges' is same at h d shows aimed =
+    let e = subst (λ v. EntersFirst held 0 First v nodes edges none nodes' edges' None) (same ∙ aimed) (subst (λ v. EntersFirst held 0 First goal nodes edges v nodes' edges' None) (none_is at.0 at.1) h) d (first_ready held kept d is shows) shows.good.aimed in
     over_weaken (λ N p. reached_expands (calculus d 0) (number_of d (says d 0 T d.goal) ∷ []) N p) e
 
 next_phase_small : (n : Node) → n.phase < 2 → next_phase n < 2

@@ -6,15 +6,20 @@ use Rattle.program.specs.Rows.{RowOf}
 use Rattle.program.specs.RowStates.{states_in}
 use Rattle.program.specs.declared.row.Row.{Row}
 use Rattle.document.specs.Documents.{Document, WellFormed, form_at, program_at, weight, weight_of, Refers}
-use Rattle.document.specs.Forms.{form_in, row_at, weight_in}
+use Rattle.document.specs.Forms.{base_in, form_in, row_at, weight_in}
 use Rattle.document.specs.declared.declared.Declared.{Declared}
 use Rattle.document.specs.declared.form.Form.{Form}
+use Rattle.document.specs.declared.names.Names.{Names}
 use Rattle.document.specs.declared.form.Form.TheVariants.{True, Prop, Not, And, Or, Next, Until}
 use Rattle.std.proofs.lemmas.Bool.{both_ways, cond_both, lt-ltb, cases_lt}
 use lib.Arith.{digits_div, digits_mod}
 use Rattle.std.proofs.lemmas.Nat.{div_below, mod_below}
 use Rattle.tableau.specs.Graphs.{Sign.T, Sign.F, Claim, form, until_true, until_false, step_true, step_false, program_of}
 use Rattle.tableau.specs.Numbers.{is_until, base, states, speaks_of, place_in, number_of, StateOf, ClaimOf, ClaimAt, Shows}
+
+-- the count of names that are read from what is declared
+pub count_read : {n : ℕ} {names held : Names} → n ≡ names.count → names ≡ held → n ≡ held.count
+count_read is read = is ∙ ap (λ (v : Names). v.count) read
 
 -- one form more
 pub weight_more : (ps : List Program) (fs : List Form) (e : ℕ) → e < length fs → weight ps (take (suc e) fs) ≡ weight ps (take e fs) + weight_of ps (get_or fs e True)
@@ -181,20 +186,15 @@ weight_held held d s e (Until f p g) l h =
 pub form_held : (held : Declared) (d : Document) → Shows held d → (e : ℕ) → e < length d.forms → weight_in held.rows (form_in held.lines e) ≡ weight_of d.progs (form_at d e)
 form_held held d s e l = ap (weight_in held.rows) (s.lines e l) ∙ weight_held held d s e (form_at d e) l refl
 
-pub until_states : (held : Declared) (d : Document) → Shows held d → (e f p g : ℕ) → e < length d.forms → form_at d e ≡ Until f p g → states_in (row_at held.rows p) ≡ states d e
-until_states held d s e f p g l h =
-    let r = subst (λ x. Refers d e x) h (s.good.refers e l) in
-    states_held (program_at d p) (row_at held.rows p) (s.rows p r.1) ∙ ap (λ x. suc (length (names (program_of d x)))) (sym h)
-
 -- the sum that is taken for a number does not wrap
-pub number_fits : (held : Declared) (d : Document) → Shows held d → (k : Claim) → ClaimOf d k → (e b place : ℕ) → e ≡ speaks_of k → (e < 64 → b ≡ get_or held.bases e 0) → place ≡ place_in d k → (b % 256 + place) % 256 ≡ number_of d k
+pub number_fits : (held : Declared) (d : Document) → Shows held d → (k : Claim) → ClaimOf d k → (e b place : ℕ) → e ≡ speaks_of k → (e < 64 → b ≡ base_in held.lines e) → place ≡ place_in d k → (b % 256 + place) % 256 ≡ number_of d k
 unfolding number_of
 number_fits held d s k c e b place same is at =
     let there = speaks_there d k c in
     let few = s.good.few_forms in
     let light = s.good.light in
     let low : e < 64 = omega arith in
-    let first : b ≡ base d (speaks_of k) = is low ∙ ap (λ x. get_or held.bases x 0) same ∙ s.bases (speaks_of k) there in
+    let first : b ≡ base d (speaks_of k) = is low ∙ ap (λ x. base_in held.lines x) same ∙ s.bases (speaks_of k) there in
     let p = place_within d k c in
     let w = base_within d (speaks_of k) there in
     omega arith
@@ -218,7 +218,7 @@ last_run d e place count s is some few l five =
     mod_small n m h = mod-eq_of_lt h
 
 -- what a form's claim at a place makes of a number
-pub numbered : (held : Declared) (d : Document) → Shows held d → (e c first : ℕ) (k : Claim) → e < length d.forms → first ≡ get_or held.bases e 0 → first ≤ c → ClaimAt d e (c - first) k → ClaimOf d k × (number_of d k ≡ c)
+pub numbered : (held : Declared) (d : Document) → Shows held d → (e c first : ℕ) (k : Claim) → e < length d.forms → first ≡ base_in held.lines e → first ≤ c → ClaimAt d e (c - first) k → ClaimOf d k × (number_of d k ≡ c)
 unfolding number_of
 numbered held d s e c first k l is h a =
     let b : first ≡ base d e = is ∙ s.bases e l in
@@ -228,7 +228,7 @@ numbered held d s e c first k l is h a =
 
 -- a number that no form has is that of no claim
 pub unnumbered : (held : Declared) (d : Document) → Shows held d → (c : ℕ) (k : Claim) → ClaimOf d k → number_of d k ≡ c
-    → ((h : ℕ) → h < length d.forms → get_or held.bases h 0 ≤ c → c < get_or held.bases h 0 + weight_in held.rows (form_in held.lines h) → ⊥) → ⊥
+    → ((h : ℕ) → h < length d.forms → base_in held.lines h ≤ c → c < base_in held.lines h + weight_in held.rows (form_in held.lines h) → ⊥) → ⊥
 unfolding number_of
 unnumbered held d s c k own is none =
     let l = speaks_there d k own in

@@ -1,15 +1,14 @@
 -- What a node hands on, form by form.
-use Rattle.std.proofs.Common.{◌≡◌, ℕ, ◌<◌, Bool, true, false, ◌⊎◌, ◌↔◌, length, sym, refl, ap, ◌∙◌, subst, inl, inr, arith}
+use Rattle.std.proofs.Common.{◌≡◌, ℕ, ◌<◌, true, false, ◌⊎◌, ◌↔◌, length, sym, refl, ap, ◌∙◌, subst, inl, inr, arith}
 use Rattle.std.proofs.lemmas.Bool.{both_ways}
 use Rattle.document.specs.Documents.{Document, WellFormed, Refers, form_at}
 use Rattle.document.specs.Forms.{form_in}
 use Rattle.document.specs.declared.declared.Declared.{Declared}
 use Rattle.document.specs.declared.form.Form.{Form}
 use Rattle.document.specs.declared.form.Form.TheVariants.{True, Prop, Not, And, Or, Next, Until}
-use Rattle.tableau.specs.Claims.{member}
-use Rattle.tableau.specs.Graphs.{Sign, Sign.T, Sign.F, form, says}
+use Rattle.tableau.specs.Graphs.{Sign, Sign.T, Sign.F, says}
 use Rattle.tableau.specs.Handing.{Any, From, Operand, By}
-use Rattle.tableau.specs.Numbers.{number_of, is_until, ClaimOf, Shows}
+use Rattle.tableau.specs.Numbers.{number_of, is_until, Shows}
 use Rattle.tableau.specs.Successions.{Handed, nexts, fails}
 use Rattle.tableau.specs.declared.node.Node.{Node}
 
@@ -44,18 +43,13 @@ by_until d n x e u y = (
   λ h. inr h,
 )
 
--- the operand as it is claimed true, and as it is claimed false
-pub next_parts : (d : Document) (n : Node) (x e f : ℕ) (p q : Bool) (a b : ℕ) → ClaimOf d (form T e) → p ≡ member n.claims.words (number_of d (form T e)) → q ≡ member n.claims.words (number_of d (form F e))
-    → a ≡ number_of d (says d x T f) → b ≡ number_of d (says d x F f)
-    → (y : ℕ) → ((s : Sign) × Operand d n x e f s y) ↔ (((p ≡ true) × (y ≡ a)) ⊎ ((q ≡ true) × (y ≡ b)))
-next_parts d n x e f p q a b claim pi qi ai bi y = (
-  λ h. to h.0 h.1,
-  λ h. elim h [ inl k ↦ (T, ((claim, sym pi ∙ k.0), k.1 ∙ ai)) | inr k ↦ (F, ((claim, sym qi ∙ k.0), k.1 ∙ bi)) ],
-)
+-- what has a property by a sign has it by one sign or by the other
+pub by_sign : (part : Sign → ℕ → Type 0) (y : ℕ) → ((s : Sign) × part s y) ↔ (part T y ⊎ part F y)
+by_sign part y = (λ h. to h.0 h.1, λ h. elim h [ inl k ↦ (T, k) | inr k ↦ (F, k) ])
   where
-    to : (s : Sign) → Operand d n x e f s y → ((p ≡ true) × (y ≡ a)) ⊎ ((q ≡ true) × (y ≡ b))
-    to T h = inl (pi ∙ h.0.1, h.1 ∙ sym ai)
-    to F h = inr (qi ∙ h.0.1, h.1 ∙ sym bi)
+    to : (s : Sign) → part s y → part T y ⊎ part F y
+    to T h = inl h
+    to F h = inr h
 
 pub handed_by : (d : Document) (n : Node) (x y : ℕ) → Handed d n x y ↔ Any (By d n x) y
 handed_by d n x y = (to, from)

@@ -154,10 +154,6 @@ stock_kept d nodes nodes' edges edges' g few units room-n room-e long-n long-e k
       all = λ j h f. i.all j h (ap (λ (e : Edge). e.from) (sym (kept-e j h)) ∙ f);
     }
 
--- the node that is opened, with where its edges stand, is the same node
-with_same : (d : Document) (n : Node) (a b : ℕ) → node_of d (with_edges n a b) ≡ node_of d n
-with_same d n a b = refl
-
 same_with : (n m : Node) (a b : ℕ) → m ≡ n → SameNode (with_edges n a b) m
 same_with n m a b e = record {
   action = ap (λ (v : Node). v.action) (sym e);

@@ -8,9 +8,17 @@ use Rattle.program.proofs.Bits.{bit_of_or, bit_of_and, bit_one}
 use Rattle.document.specs.Documents.{Document, form_at}
 use Rattle.document.specs.declared.form.Form.{Form}
 use Rattle.document.specs.declared.form.Form.TheVariants.{Next, Prop}
-use Rattle.tableau.specs.Graphs.{Sign, Sign.T, form}
+use Rattle.tableau.specs.Claims.{member}
+use Rattle.tableau.specs.Graphs.{Sign, Sign.T, Claim, form}
+use Rattle.tableau.specs.Numbers.{Shows, ClaimOf, number_of}
 use Rattle.tableau.specs.Successions.{Claims}
+use Rattle.tableau.specs.declared.told.Told.{Told}
 use Rattle.tableau.proofs.Clashing.{same_prop}
+
+-- what a set tells of a claim, by another name for the set
+pub of_told : {d : Document} {t u : Told} (k : Claim) {r : Bool} → t ≡ u → (Shows t.declared.now d → ClaimOf d k → r ≡ member t.set.words (number_of d k))
+    → Shows u.declared.now d → ClaimOf d k → r ≡ member u.set.words (number_of d k)
+of_told {d} k {r} is read = subst (λ (v : Told). Shows v.declared.now d → ClaimOf d k → r ≡ member v.set.words (number_of d k)) is read
 
 -- a bit as the code shifts it
 shifted : (k : ℕ) → k < 16 → 1 * 2 ^ k % 65536 ≡ 2 ^ k

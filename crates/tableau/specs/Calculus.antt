@@ -1,10 +1,10 @@
 -- Claims as numbers: what gives what, what clashes with what, and what the alternatives of a claim offer.
-use Rattle.std.specs.Prelude.{◌≡◌, ℕ, Bool, true, false, ◌||◌, ◌⊎◌, ◌↔◌, List, [], ◌∷◌, ◌==◌}
+use Rattle.std.specs.Prelude.{◌≡◌, ℕ, Bool, true, false, cond, ◌||◌, ◌⊎◌, ◌↔◌, List, [], ◌∷◌, ◌==◌}
 use Rattle.std.proofs.Common.{inl, inr}
 use Rattle.document.specs.Documents.{Document, form_at}
 use Rattle.document.specs.declared.form.Form.TheVariants.{True, Prop}
 use Rattle.tableau.specs.Claims.{has}
-use Rattle.tableau.specs.Graphs.{Sign.T, Sign.F, Claim, form, until_true, until_false, step_true, step_false, Gives}
+use Rattle.tableau.specs.Graphs.{Sign, Sign.T, Sign.F, Claim, form, until_true, until_false, step_true, step_false, says, Gives}
 use Rattle.tableau.specs.Numbers.{number_of, ClaimOf}
 use Rattle.tableau.specs.Offers.{listed}
 use Rattle.tableau.specs.declared.rules.Alternatives.{Alternatives}
@@ -95,6 +95,11 @@ abbrev pub Either : ℕ → ℕ → Alternatives → Type 0
 Either a b Nothing = ⊥
 Either a b (One f) = (a ≡ b) × (listed f ≡ a ∷ [])
 Either a b (Two f h) = (listed f ≡ a ∷ []) × (listed h ≡ b ∷ [])
+
+-- what joins two forms gives: both of them, or the one that is chosen
+abbrev pub Joined : Document → ℕ → Sign → Bool → ℕ → ℕ → Bool → Claim → Type 0
+Joined d x s true f g b k = (k ≡ says d x s f) ⊎ (k ≡ says d x s g)
+Joined d x s false f g b k = k ≡ says d x s (cond b f g)
 
 -- the claim clashes with one of the set, or with itself
 abbrev pub ClashesWith : Document → (ℕ → Bool) → Claim → Type 0

@@ -1,9 +1,9 @@
 -- The claims of a document and their numbers: two for a form that is no until; six runs of one number a state for an until.
-use Rattle.std.specs.Prelude.{◌≡◌, ℕ, suc, ◌+◌, ◌*◌, ◌<◌, Bool, true, false, cond, length, take, ◌==◌, slice_index}
+use Rattle.std.specs.Prelude.{◌≡◌, ℕ, suc, ◌+◌, ◌*◌, ◌<◌, Bool, true, false, cond, length, take, ◌==◌}
 use Rattle.program.specs.Automata.{names}
 use Rattle.program.specs.Rows.{RowOf}
 use Rattle.document.specs.Documents.{Document, WellFormed, form_at, program_at, weight}
-use Rattle.document.specs.Forms.{form_in, row_at}
+use Rattle.document.specs.Forms.{base_in, form_in, row_at}
 use Rattle.document.specs.declared.declared.Declared.{Declared}
 use Rattle.document.specs.declared.form.Form.{Form}
 use Rattle.document.specs.declared.form.Form.TheVariants.{True, Prop, Not, And, Or, Next, Until}
@@ -75,4 +75,4 @@ pub record Shows (held : Declared) (d : Document) : Type 0 where
   pub count : held.forms.count ≡ length d.forms
   pub lines : (e : ℕ) → e < length d.forms → form_in held.lines e ≡ form_at d e
   pub rows : (p : ℕ) → p < length d.progs → RowOf (program_at d p) (row_at held.rows p)
-  pub bases : (e : ℕ) → e < length d.forms → slice_index held.bases e ≡ base d e
+  pub bases : (e : ℕ) → e < length d.forms → base_in held.lines e ≡ base d e

@@ -1,15 +1,17 @@
 -- What the alternatives of a claim may be.
-use Rattle.std.specs.Prelude.{ℕ, ◌≤◌, List, take}
+use Rattle.std.specs.Prelude.{ℕ, ◌≤◌, List, [], ◌∷◌, length}
 use Rattle.tableau.specs.declared.rules.Few.{Few}
+use Rattle.tableau.specs.declared.rules.Few.TheVariants.{Single, Pair}
 use Rattle.tableau.specs.declared.rules.Alternatives.{Alternatives}
 use Rattle.tableau.specs.declared.rules.Alternatives.TheVariants.{Nothing, One, Two}
 
 -- the claims of a few
 abbrev pub listed : Few → List ℕ
-listed f = take f.count f.claims
+listed (Single a) = a ∷ []
+listed (Pair a b) = a ∷ b ∷ []
 
--- each alternative has at most three claims
+-- each alternative has at most two claims
 abbrev pub Small : Alternatives → Type 0
 Small Nothing = Unit {0}
-Small (One f) = f.count ≤ 3
-Small (Two f h) = (f.count ≤ 3) × (h.count ≤ 3)
+Small (One f) = length (listed f) ≤ 2
+Small (Two f h) = (length (listed f) ≤ 2) × (length (listed h) ≤ 2)

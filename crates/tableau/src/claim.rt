@@ -1,6 +1,6 @@
 // Claims of a node, and their numbers. A form that is no until has two numbers, T and F; an until with m states has six
 // runs of m: T until with label 0 and 1, F until, T step with label 0 and 1, F step.
-ghost use Rattle.std.specs.Prelude.{◌≡◌, ℕ, ◌+◌, ◌*◌, ◌<◌, ◌≤◌, true, length, if◌then◌else◌, MatchOption, ◌≢◌};
+ghost use Rattle.std.specs.Prelude.{◌≡◌, ℕ, ◌+◌, ◌-◌, ◌*◌, ◌<◌, ◌≤◌, true, length, if◌then◌else◌, MatchOption, ◌≢◌};
 ghost use Rattle.document.specs.Documents.{Document as Meaning, form_at, weight_of};
 ghost use Rattle.tableau.specs.Graphs.{Sign, Sign.T, Sign.F, Claim as Claimed, form};
 ghost use Rattle.tableau.specs.Meant.{meant};
@@ -9,7 +9,9 @@ ghost use Rattle.tableau.specs.Numbers.{Shows, StateOf, ClaimOf, ClaimAt, number
 use document::declared::Declared;
 use document::form::Form;
 
-#[derive(Clone, Copy, PartialEq, Eq)]
+// Kept: labels, here and in `TrueStep`, and the phases of `Rules` and `Node` are the numbers 0 and 1, since the definitions of
+// the graph compute with them: a phase p turns to 1 - p. A sign is a bool, which `!` turns.
+#[derive(Clone, Copy, PartialEq, Eq, Debug)]
 pub enum Claim {
     // The form is true, or false; it is no until.
     True(u8),
@@ -49,9 +51,12 @@ fn speaks_of(claim: Claim) -> u8
     ensures { result ≡ speaks_of (meant claim) }
 {
     match claim {
-        Claim::True(e) | Claim::False(e) => e,
-        Claim::TrueUntil(e, _, _) | Claim::TrueStep(e, _, _) => e,
-        Claim::FalseUntil(e, _) | Claim::FalseStep(e, _) => e,
+        Claim::True(e)
+        | Claim::False(e)
+        | Claim::TrueUntil(e, _, _)
+        | Claim::FalseUntil(e, _)
+        | Claim::TrueStep(e, _, _)
+        | Claim::FalseStep(e, _) => e,
     }
 }
 
@@ -79,7 +84,8 @@ fn place_in(declared: &Declared, claim: Claim) -> u16
     }
 }
 
-// The number of a claim of the document.
+// The number of a claim of the document. The remainders by 256 are the claim's own number and base; they keep what any other
+// claim gives within the types.
 pub fn number(declared: &Declared, claim: Claim) -> u8
     ensures { (d : Meaning) → Shows declared.now d → ClaimOf d (meant claim) → result ≡ number_of d (meant claim) }
 {
@@ -87,7 +93,8 @@ pub fn number(declared: &Declared, claim: Claim) -> u8
     ((base + place_in(declared, claim)) % 256) as u8
 }
 
-// The claim of an until's number, counted from its first.
+// The claim of an until's number, counted from its first. The remainder by 16 changes no state of a document's until; it keeps
+// any other within the type.
 fn until_claim(e: u8, place: u16, count: u16) -> Claim
     requires { 1 ≤ count }
     ensures { (d : Meaning) → StateOf d e 0 → count ≡ states d e → count ≤ 16 → place < 6 * count → ClaimAt d e place (meant result) }
@@ -109,13 +116,7 @@ fn claim_in(declared: &Declared, e: u8, place: u16) -> Claim
 {
     match declared.form(e as usize) {
         Form::Until(_, p, _) => until_claim(e, place, declared.row(p).states() as u16),
-        _ => {
-            if place == 0 {
-                Claim::True(e)
-            } else {
-                Claim::False(e)
-            }
-        }
+        _ => signed(e, place == 0),
     }
 }
 

@@ -2,7 +2,9 @@
 ghost use Rattle.std.specs.Prelude.{◌≡◌, ℕ, true, false, ◌||◌, MatchBool, ◌==◌};
 ghost use Rattle.tableau.specs.Claims.{member, Same};
 
-#[derive(Clone, Copy)]
+use program::masks;
+
+#[derive(Clone, Copy, Default, Debug)]
 pub struct ClaimSet {
     words: [u64; 4],
 }
@@ -11,29 +13,31 @@ impl ClaimSet {
     pub fn empty() -> ClaimSet
         ensures { (x : ℕ) → member result.words x ≡ false }
     {
-        ClaimSet { words: [0; 4] }
+        ClaimSet::default()
     }
 
     pub fn contains(&self, c: u8) -> bool
         ensures { result ≡ member self.now.words c }
     {
-        (self.words[(c / 64) as usize] >> (c % 64)) & 1 == 1
+        masks::has(self.words[(c / 64) as usize], (c % 64) as usize)
     }
 
     pub fn with(self, c: u8) -> ClaimSet
         ensures { (x : ℕ) → member result.words x ≡ (member self.words x || c == x) }
     {
         let mut words = self.words;
-        let k = (c / 64) as usize;
-        words[k] = words[k] | (1 << (c % 64));
+        words[(c / 64) as usize] |= 1 << (c % 64);
         ClaimSet { words }
     }
 
+    // Whether the two have the same claims.
+    // Kept: a loop over the words. Sets with different words differ only because a word is below 2^64, and a `==` (derived,
+    // or of the arrays) does not hand that on; reading a word does.
     pub fn same(&self, other: &ClaimSet) -> bool
         ensures { MatchBool result (Same (member self.now.words) (member other.now.words)) (Same (member self.now.words) (member other.now.words) → ⊥) }
     {
-        for k in 0..4 {
-            if self.words[k] != other.words[k] {
+        for (k, word) in self.words.iter().enumerate() {
+            if *word != other.words[k] {
                 return false;
             }
         }

@@ -1,21 +1,21 @@
 // Growing: units, one after another, while the budget lasts and the tables have room.
-ghost use Rattle.std.specs.Prelude.{◌≡◌, ℕ, ◌+◌, ◌-◌, ◌<◌, ◌≤◌, length, IfSome, nat_lt};
-ghost use Rattle.tableau.specs.Growing.{Sound, Later};
+ghost use Rattle.std.specs.Prelude.{◌≡◌, ℕ, ◌+◌, ◌-◌, ◌<◌, ◌≤◌, length, IfSome, nat_lt, Some};
+ghost use Rattle.tableau.specs.Growing.{Sound, Later, word};
 ghost use Rattle.document.specs.Documents.{Document as Meaning};
 ghost use Rattle.tableau.specs.Units.{FirstUnit, NextUnit, next_phase};
 ghost use Rattle.tableau.specs.UnitsHeld.{WorksUnit, UnderWay, Grew};
 
 use crate::node::{Edge, Node, Used};
-use crate::open::{enter_first, enter_successors};
-use crate::rules::Rules;
+use crate::rules::{Rules, turned};
 use crate::trail::Trail;
 use crate::unit::{Opening, Origin};
 use document::declared::Declared;
 use document::document::Document;
+use std::fmt;
 
 // How far the graph has grown: the units worked, the nodes that the first unit entered, and the places in use. Unit
 // number k + 1 opens node k.
-#[derive(Clone, Copy)]
+#[derive(Clone, Copy, PartialEq, Eq, Default, Debug)]
 pub struct Grown {
     pub units: usize,
     pub first: usize,
@@ -26,11 +26,7 @@ impl Grown {
     pub fn nothing() -> Grown
         ensures { (result.units ≡ 0) × (result.first ≡ 0) × (result.used.nodes ≡ 0) × (result.used.edges ≡ 0) }
     {
-        Grown {
-            units: 0,
-            first: 0,
-            used: Used { nodes: 0, edges: 0 },
-        }
+        Grown::default()
     }
 
     // Whether no unit is left.
@@ -51,8 +47,20 @@ pub enum Report {
     More,
 }
 
+impl fmt::Display for Report {
+    ghost output = { λ r. Some (word r) };
+
+    fn fmt<W: fmt::Write>(&self, f: &mut fmt::Formatter<W>) -> fmt::Result {
+        f.write_str(match self {
+            Report::Complete => "complete",
+            Report::Full => "full",
+            Report::More => "more",
+        })
+    }
+}
+
 // What a call of grow did.
-#[derive(Clone, Copy)]
+#[derive(Clone, Copy, PartialEq, Eq, Debug)]
 pub struct Growth {
     pub units: u64,
     pub report: Report,
@@ -72,9 +80,8 @@ fn first_unit(document: &Document, nodes: &mut [Node], edges: &mut [Edge]) -> Op
         origin: Origin::First,
     };
     let mut trail = Trail::new();
-    let none = Used { nodes: 0, edges: 0 };
     let goal = document.goal() as u8;
-    let used = enter_first(opening, goal, &mut trail, nodes, edges, none)?;
+    let used = opening.enter_first(goal, &mut trail, nodes, edges, Used::default())?;
     Some(Grown {
         units: 1,
         first: used.nodes,
@@ -86,10 +93,11 @@ fn first_unit(document: &Document, nodes: &mut [Node], edges: &mut [Edge]) -> Op
 fn phase_after(node: &Node) -> u8
     ensures { result ≡ next_phase node.now }
 {
-    if !node.closing {
-        return node.phase;
+    if node.closing {
+        turned(node.phase)
+    } else {
+        node.phase
     }
-    if node.phase == 0 { 1 } else { 0 }
 }
 
 // The unit that opens the lowest unopened node. None where its successors do not fit.
@@ -120,7 +128,7 @@ fn next_unit(
         },
     };
     let mut trail = Trail::new();
-    let used = enter_successors(opening, &node, &mut trail, nodes, edges, grown.used)?;
+    let used = opening.enter_successors(&node, &mut trail, nodes, edges, grown.used)?;
     node.first_edge = grown.used.edges as u32;
     node.edge_count = (used.edges - grown.used.edges) as u32;
     nodes[k] = node;
@@ -159,26 +167,22 @@ pub fn grow(
     ensures grew { (d : Meaning) → UnderWay document.now d nodes.old edges.old grown → Grew d nodes.old edges.old grown budget nodes.new edges.new result.0 result.1 }
 {
     let mut now = grown;
-    let mut units = 0;
-    while units < budget && !now.is_complete() {
-        match unit(document, nodes, edges, now) {
-            Some(next) => now = next,
-            None => {
-                return (
-                    now,
-                    Growth {
-                        units,
-                        report: Report::Full,
-                    },
-                );
-            }
+    for units in 0..budget {
+        if now.is_complete() {
+            let report = Report::Complete;
+            return (now, Growth { units, report });
         }
-        units += 1;
+        let Some(next) = unit(document, nodes, edges, now) else {
+            let report = Report::Full;
+            return (now, Growth { units, report });
+        };
+        now = next;
     }
     let report = if now.is_complete() {
         Report::Complete
     } else {
         Report::More
     };
+    let units = budget;
     (now, Growth { units, report })
 }

@@ -11,7 +11,7 @@ pub const MOST_EDGES: usize = 65536;
 
 // A node: the action of its step, the phase, whether it is closing, and its claims. Of these hang `shows` and `hides`, the
 // propositions that it claims true and false. Once it is opened, its edges stand one after another from `first_edge` on.
-#[derive(Clone, Copy)]
+#[derive(Clone, Copy, Default, Debug)]
 pub struct Node {
     pub action: u8,
     pub phase: u8,
@@ -26,19 +26,11 @@ pub struct Node {
 impl Node {
     // A node for places not in use.
     pub fn blank() -> Node {
-        Node {
-            action: 0,
-            phase: 0,
-            closing: false,
-            claims: ClaimSet::empty(),
-            shows: 0,
-            hides: 0,
-            first_edge: 0,
-            edge_count: 0,
-        }
+        Node::default()
     }
 
     // Whether the two are the same node of the graph.
+    // Kept: a derived `==` would compare the edges' places too, which are no part of what a node is.
     pub fn same(&self, other: &Node) -> bool
         ensures { Decides result (SameNode self.now other.now) }
     {
@@ -50,7 +42,7 @@ impl Node {
 }
 
 // An edge: a pair of nodes, by their numbers.
-#[derive(Clone, Copy, PartialEq, Eq, Debug)]
+#[derive(Clone, Copy, PartialEq, Eq, Default, Debug)]
 pub struct Edge {
     pub from: u16,
     pub to: u16,
@@ -58,39 +50,28 @@ pub struct Edge {
 
 impl Edge {
     pub fn blank() -> Edge {
-        Edge { from: 0, to: 0 }
+        Edge::default()
     }
 }
 
 // How many places of the two tables are in use.
-#[derive(Clone, Copy)]
+// Kept: the tables are lent beside it, as two parameters, so each function that enters requires that it lies within them.
+#[derive(Clone, Copy, PartialEq, Eq, Default, Debug)]
 pub struct Used {
     pub nodes: usize,
     pub edges: usize,
 }
 
-// The number of the node among the first `count`.
-pub fn find_node(nodes: &[Node], count: usize, node: &Node) -> Option<usize>
-    requires { count ≤ length nodes.now }
-    ensures { MatchOption result ((k : ℕ) → k < count → SameNode (node_at nodes.now k) node.now → ⊥) (λ i. (i < count) × SameNode (node_at nodes.now i) node.now) }
+// The number of the node among these.
+pub fn find_node(nodes: &[Node], node: &Node) -> Option<usize>
+    ensures { MatchOption result ((k : ℕ) → k < length nodes.now → SameNode (node_at nodes.now k) node.now → ⊥) (λ i. (i < length nodes.now) × SameNode (node_at nodes.now i) node.now) }
 {
-    for i in 0..count {
-        if nodes[i].same(node) {
-            return Some(i);
-        }
-    }
-    None
+    nodes.iter().position(|other| other.same(node))
 }
 
-// Whether one of the edges from place `first` on, below `count`, leads to the node.
-pub fn has_edge_to(edges: &[Edge], first: usize, count: usize, to: u16) -> bool
-    requires { count ≤ length edges.now }
-    ensures { Decides result ((k : ℕ) × (first ≤ k) × (k < count) × ((edge_at edges.now k).to ≡ to)) }
+// Whether one of the edges leads to the node.
+pub fn has_edge_to(edges: &[Edge], to: u16) -> bool
+    ensures { Decides result ((k : ℕ) × (k < length edges.now) × ((edge_at edges.now k).to ≡ to)) }
 {
-    for i in first..count {
-        if edges[i].to == to {
-            return true;
-        }
-    }
-    false
+    edges.iter().any(|edge| edge.to == to)
 }

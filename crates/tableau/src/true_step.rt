@@ -29,7 +29,7 @@ pub fn targets(declared: &Declared, e: u8, q: u8, action: u8) -> u16
 // A claim T step.
 #[derive(Clone, Copy)]
 pub struct TrueStep {
-    pub number: usize,
+    pub number: u8,
     pub form: u8,
     pub state: u8,
     pub label: u8,
@@ -40,10 +40,9 @@ fn step_of(declared: &Declared, c: u8) -> Option<TrueStep>
     ensures number { IfSome result (λ s. s.number ≡ c) }
     ensures step { (d : Meaning) → Shows declared.now d → MatchOption result ((e q l : ℕ) → ClaimOf d (step_true e q l) → number_of d (step_true e q l) ≢ c) (λ s. ClaimOf d (step_true s.form s.state s.label) × (number_of d (step_true s.form s.state s.label) ≡ c)) }
 {
-    let claim = claim_of(declared, c)?;
-    match claim {
+    match claim_of(declared, c)? {
         Claim::TrueStep(form, state, label) => Some(TrueStep {
-            number: c as usize,
+            number: c,
             form,
             state,
             label,

@@ -4,18 +4,17 @@
 ghost use Rattle.std.specs.Prelude.{◌≡◌};
 ghost use Rattle.document.specs.Faults.{load_fault_code, load_fault_line};
 ghost use Rattle.study.specs.Refusals.{refusal_code};
-ghost use Rattle.verdict.specs.declared.Outcome.TheVariants.{Refused};
+ghost use Rattle.verdict.specs.declared.Fault.TheVariants.{Refused as IsRefused, NoMemory};
 
 use document::fault::LoadFault;
 use lasso::step::Step;
 use std::alloc::{AllocError, Global};
-use std::io;
 use std::io::{Read, Write};
+use std::{fmt, io};
 use study::refusal::Refusal;
 use study::study::Study;
-use study::study::calls::Verdict;
 use tableau::grow::Report;
-use tableau::node::{Edge, Node};
+use tableau::node::{Edge, Node, Used};
 
 // Places of the tables.
 const NODES: usize = 512;
@@ -25,115 +24,142 @@ const EDGES: usize = 4096;
 // Bytes that a lasso's text may have.
 const TEXT: usize = 65536;
 
-fn blank_step() -> Step {
-    Step {
-        state: 0,
-        action: 0,
-        marks: 0,
-    }
-}
-
-// What the program writes: one line, and after `found` the lasso's text, of `lines` bytes.
+// How a goal is settled.
 #[derive(Clone, Copy)]
-enum Outcome {
-    Refused {
-        code: u8,
-        line: usize,
-    },
-    Decided {
-        word: Word,
-        nodes: usize,
-        edges: usize,
-        lines: usize,
-    },
-}
-
-#[derive(Clone, Copy)]
-enum Word {
-    Found,
+enum Settled {
+    // A lasso is found; its text has so many bytes.
+    Found { len: usize },
     None,
+    // The tables are too small.
     Full,
 }
 
-fn spelled(word: Word) -> &'static str {
-    match word {
-        Word::Found => "found",
-        Word::None => "none",
-        Word::Full => "full",
+// How the goal of a document is settled, and the places in use.
+#[derive(Clone, Copy)]
+struct Decided {
+    how: Settled,
+    used: Used,
+}
+
+// Why there is nothing to decide: the refusal's number, and the line that is refused or 0.
+// Kept: the two numbers and no enum, since refusals of two kinds are written in one way.
+#[derive(Clone, Copy)]
+struct Refused {
+    code: u8,
+    line: usize,
+}
+
+// Why the program says no verdict.
+enum Fault {
+    Refused(Refused),
+    NoMemory(AllocError),
+}
+
+impl fmt::Display for Settled {
+    fn fmt<W: fmt::Write>(&self, f: &mut fmt::Formatter<W>) -> fmt::Result {
+        match self {
+            Settled::Found { len: _ } => write!(f, "found"),
+            Settled::None => write!(f, "none"),
+            Settled::Full => write!(f, "full"),
+        }
     }
 }
 
-fn refused_call(refusal: Refusal) -> Outcome
-    ensures { result ≡ Refused (refusal_code refusal) 0 }
-{
-    Outcome::Refused {
-        code: refusal.code(),
-        line: 0,
+impl fmt::Display for Decided {
+    fn fmt<W: fmt::Write>(&self, f: &mut fmt::Formatter<W>) -> fmt::Result {
+        let how = self.how;
+        let Used { nodes, edges } = self.used;
+        write!(f, "verdict\t{how}\t{nodes}\t{edges}")
     }
 }
 
-// The verdict of a study that was grown; a found lasso's text stands in the first bytes of `text`.
-fn decided(
-    study: &Study,
+impl fmt::Display for Refused {
+    fn fmt<W: fmt::Write>(&self, f: &mut fmt::Formatter<W>) -> fmt::Result {
+        let Refused { code, line } = *self;
+        write!(f, "refused\t{code}\t{line}")
+    }
+}
+
+impl From<Refusal> for Refused {
+    ghost from_gives = { λ f r. (r.code ≡ refusal_code f) × (r.line ≡ 0) };
+
+    fn from(refusal: Refusal) -> Refused {
+        Refused {
+            code: refusal.code(),
+            line: 0,
+        }
+    }
+}
+
+impl From<LoadFault> for Refused {
+    ghost from_gives = { λ f r. (r.code ≡ load_fault_code f) × (r.line ≡ load_fault_line f) };
+
+    fn from(fault: LoadFault) -> Refused {
+        Refused {
+            code: fault.code(),
+            line: fault.line(),
+        }
+    }
+}
+
+impl From<Refused> for Fault {
+    ghost from_gives = { λ r f. f ≡ IsRefused r };
+
+    fn from(refused: Refused) -> Fault {
+        Fault::Refused(refused)
+    }
+}
+
+impl From<AllocError> for Fault {
+    ghost from_gives = { λ e f. f ≡ NoMemory e };
+
+    fn from(error: AllocError) -> Fault {
+        Fault::NoMemory(error)
+    }
+}
+
+// Grows to the end and decides; a found lasso's text stands in the first bytes of `text`.
+fn settle(
+    study: &mut Study,
     work: &mut [u64],
     steps: &mut [Step],
     text: &mut [u8],
-) -> Result<(Word, usize), Refusal> {
-    match study.decide(work, steps)? {
-        Verdict::None => Ok((Word::None, 0)),
-        Verdict::Found { steps: n, stem } => {
-            if n > steps.len() {
-                return Err(Refusal::Places);
-            }
-            let len = study.print(&steps[0..n], stem, text)?;
-            Ok((Word::Found, len))
-        }
+) -> Result<Settled, Refusal> {
+    if study.grow(u64::MAX)?.report != Report::Complete {
+        return Ok(Settled::Full);
     }
-}
-
-// Grows to the end and decides.
-fn settle(study: &mut Study, work: &mut [u64], steps: &mut [Step], text: &mut [u8]) -> Outcome {
-    let word = match study.grow(u64::MAX) {
-        Err(refusal) => Err(refusal),
-        Ok(growth) => match growth.report {
-            Report::Complete => decided(study, work, steps, text),
-            _ => Ok((Word::Full, 0)),
-        },
+    let Some(found) = study.decide(work, steps)? else {
+        return Ok(Settled::None);
     };
-    match word {
-        Err(refusal) => refused_call(refusal),
-        Ok((word, lines)) => {
-            let used = study.used();
-            Outcome::Decided {
-                word,
-                nodes: used.nodes,
-                edges: used.edges,
-                lines,
-            }
-        }
-    }
+    let lasso = steps.get(..found.len).ok_or(Refusal::Places)?;
+    let len = study.print(lasso, found.stem, text)?;
+    Ok(Settled::Found { len })
 }
 
-fn refused_load(fault: LoadFault) -> Outcome
-    ensures { result ≡ Refused (load_fault_code fault) (load_fault_line fault) }
-{
-    Outcome::Refused {
-        code: fault.code(),
-        line: fault.line(),
-    }
+// All that the program computes of a document, over the lent places.
+fn decide(
+    study: &mut Study,
+    document: &[u8],
+    work: &mut [u64],
+    steps: &mut [Step],
+    text: &mut [u8],
+) -> Result<Decided, Refused> {
+    study.load(document)?;
+    let how = settle(study, work, steps, text)?;
+    Ok(Decided {
+        how,
+        used: study.used(),
+    })
 }
 
-// All that the program computes of a document.
-fn settled(heap: Global, document: &[u8], text: &mut [u8]) -> Result<Outcome, AllocError> {
+// The same, over places of its own.
+fn outcome(heap: Global, document: &[u8], text: &mut [u8]) -> Result<Decided, Fault> {
     let mut nodes = vec![in heap; Node::blank(); NODES]?;
     let mut edges = vec![in heap; Edge::blank(); EDGES]?;
     let mut work = vec![in heap; 0u64; 4 * NODES]?;
-    let mut steps = vec![in heap; blank_step(); 2 * NODES]?;
+    let mut steps = vec![in heap; Step::default(); 2 * NODES]?;
     let mut study = Study::new(&mut nodes, &mut edges);
-    match study.load(document) {
-        Err(fault) => Ok(refused_load(fault)),
-        Ok(()) => Ok(settle(&mut study, &mut work, &mut steps, text)),
-    }
+    Ok(decide(&mut study, document, &mut work, &mut steps, text)?)
 }
 
 fn main(rt: HostRuntime) -> io::Result<()> {
@@ -141,18 +167,13 @@ fn main(rt: HostRuntime) -> io::Result<()> {
     let mut document = Vec::new(heap);
     rt.stdin().read_to_end(&mut document)?;
     let mut text = vec![in heap; 0u8; TEXT]?;
-    match settled(heap, &document, &mut text)? {
-        Outcome::Refused { code, line } => println!(rt; "refused\t{code}\t{line}"),
-        Outcome::Decided {
-            word,
-            nodes,
-            edges,
-            lines,
-        } => {
-            let word = spelled(word);
-            println!(rt; "verdict\t{word}\t{nodes}\t{edges}")?;
-            if lines <= text.len() {
-                rt.stdout().write_all(&text[0..lines])?;
+    match outcome(heap, &document, &mut text) {
+        Err(Fault::NoMemory(error)) => Err(error.into()),
+        Err(Fault::Refused(refused)) => println!(rt; "{refused}"),
+        Ok(decided) => {
+            println!(rt; "{decided}")?;
+            if let Settled::Found { len } = decided.how {
+                rt.stdout().write_all(&text[..len.min(text.len())])?;
             }
             Ok(())
         }

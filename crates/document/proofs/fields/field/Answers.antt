@@ -1,32 +1,25 @@
-use Rattle.std.proofs.Common.{◌≡◌, suc, ◌+◌, ◌-◌, ◌<◌, [], length, get_or, take, drop, sym, ap, ◌∙◌, subst, arith}
-use Rattle.document.specs.Texts.{fields}
-use Rattle.document.proofs.Pieces.{Clear, piece_first, piece_last, piece_next}
+use Rattle.std.proofs.Common.{◌≡◌, ℕ, eqb, List, [], length, get_or, Some, None, Option, refl, sym, ap, ◌∙◌, arith, rules}
+use Rattle.std.specs.Iterator.{SkipsThenYields}
+use Rattle.std.specs.Option.{unwrap_or}
+use Rattle.std.proofs.lemmas.Iterator.{YieldsList}
+use Rattle.std.proofs.lemmas.Iterator.Consumers.{YieldsList-turn, YieldsList-end}
+use Rattle.std.proofs.lemmas.Iterator.Splits.{YieldsList-from_slice_split}
+use Rattle.std.proofs.lemmas.List.{get_or_past, get_or_default}
+use Rattle.document.proofs.Pieces.{pieces_split}
 use Rattle.document.proofs.fields.field.Goals as goal
 
-pub loop-k-preserved : goal.loop-k-preserved
-loop-k-preserved c =
-    let line = c.args.line.now in
-    let s = c.next_place-end.ensures in
-    let less : c.next_place-end.result < length line = omega (arith, s.within) in
-    let next = piece_next 9 line c.loop-k.at c.next_place-end.result s.within.0 less s.before (s.here less) in (
-      omega arith,
-      λ k. let i : c.loop-k._k + 1 + k ≡ c.loop-k._k + suc k = omega arith in
-          ap (λ v. get_or (fields line) v []) i ∙ c.loop-k.invariant.1 (suc k) ∙ ap (λ ps. get_or ps (suc k) []) next,
-    )
-
-pub returns-then-end-line : goal.returns-then-end-line
-returns-then-end-line c =
-    let line = c.args.line.now in
-    let s = c.next_place-end.ensures in
-    let last = piece_last 9 line c.loop-k.at (subst (Clear 9 line c.loop-k.at) c.if-end-line.true s.before) in
-    let i : c.loop-k._k + suc (c.args.number - c.loop-k._k - 1) ≡ c.args.number = omega arith in
-    let z : c.next_place-end.result - c.next_place-end.result ≡ 0 = omega arith in
-    ap (λ v. take v (drop c.next_place-end.result line)) z
-    ∙ sym (ap (λ v. get_or (fields line) v []) (sym i) ∙ c.loop-k.invariant.1 (suc (c.args.number - c.loop-k._k - 1)) ∙ ap (λ ps. get_or ps (suc (c.args.number - c.loop-k._k - 1)) []) last)
+-- what `nth` gives is the element at that place
+nth_is : {S A B : Type 0} {steps : S → Option A → S → Type 0} {v : A → B} {s : S} {all : List B} (n : ℕ) (r : Option A) (u : S) (d : A)
+    → YieldsList steps v s all → SkipsThenYields steps s n r u → v (unwrap_or r d) ≡ get_or all n (v d)
+nth_is {v = v} {all = all} n None u d e h =
+    let t = YieldsList-end e h.0 h.1.0 h.1.1 None u refl h.1.2 in
+    sym (get_or_past all n (v d) (omega (arith, t.1, h.2)))
+nth_is {v = v} {all = all} n (Some x) u d e h =
+    let t = YieldsList-turn e h.0 h.1.0 h.1.1 (Some x) u x refl h.1.2 in
+    t.1 ∙ get_or_default all (length h.0) (v x) (v d) t.0 ∙ ap (λ k. get_or all k (v d)) h.2
 
 pub returns : goal.returns
 returns c =
-    let line = c.args.line.now in
-    let s = c.next_place-end-2.ensures in
-    let i : c.loop-k._k + 0 ≡ c.args.number = omega arith in
-    sym (ap (λ v. get_or (fields line) v []) (sym i) ∙ c.loop-k.invariant.1 0 ∙ piece_first 9 line c.loop-k.at c.next_place-end-2.result s.within.0 s.within.1 s.before s.here)
+    ap (λ r. r.now) c.unwrap_or.ensures
+    ∙ nth_is c.args.number c.nth.result _ _ (YieldsList-from_slice_split _ (λ b. eqb b 9) c.args.line.now c.split.ensures.rest c.split.ensures.done c.split.ensures.closure (λ x b q k. search rules)) c.nth.ensures.ran
+    ∙ ap (λ ps. get_or ps c.args.number []) (sym (pieces_split 9 c.args.line.now))

@@ -28,7 +28,7 @@ judges held steps stem lasso d same good = record {
 }
 
 pub loop-e-init : goal.loop-e-init
-loop-e-init c d J = judged_none d c.args.steps.now c.args.stem c.clear.new.words (λ k l. c.clear.ensures k (omega arith))
+loop-e-init c d J = judged_none d c.args.lasso.steps.now c.args.lasso.stem c.clear.new.words (λ k l. c.clear.ensures k (omega arith))
 
 pub loop-e-preserved : goal.loop-e-preserved
 loop-e-preserved c d J = c.judge_form.ensures d J (c.loop-e.invariant d J)
@@ -36,13 +36,13 @@ loop-e-preserved c d J = c.judge_form.ensures d J (c.loop-e.invariant d J)
 pub returns : goal.returns
 returns c = record {
   decides = λ d same good.
-      let steps = c.args.steps.now in
-      let J = subst (λ held. Judges held steps d) (sym c.declared-declared.ensures) (judges c.args.document.now steps c.args.stem c.requires.lasso d same good) in
+      let steps = c.args.lasso.steps.now in
+      let J = subst (λ held. Judges held steps d) (sym c.declared-declared.ensures) (judges c.args.document.now steps c.args.lasso.stem c.requires.lasso d same good) in
       let all = c.count-e-end.ensures.is ∙ ap (λ x. x.count) c.forms.ensures.is ∙ ap (λ x. x.forms.count) c.declared-declared.ensures in
       let t =
-      judged_tells d steps c.args.stem c.loop-e.e 0 c.loop-e.truths (c.loop-e.invariant d J) c.goal.result 0
+      judged_tells d steps c.args.lasso.stem c.loop-e.e 0 c.loop-e.truths (c.loop-e.invariant d J) c.goal.result 0
       (omega (arith, c.loop-e-test.false, c.goal.ensures.aimed)) (omega arith) in
-      subst (λ (e : ℕ). Decides c.bit.result (Truth (reading steps c.args.stem) 0 (formula_at d e))) (c.goal.ensures.is ∙ same.goal)
-      (Decides-at c.bit.result _ c.bit.ensures t);
+      subst (λ (e : ℕ). Decides c.has.result (Truth (reading steps c.args.lasso.stem) 0 (formula_at d e))) (c.goal.ensures.is ∙ same.goal)
+      (Decides-at c.has.result _ c.has.ensures t);
   laws = (truth_decided, (truth_alike, meets_alike));
 }

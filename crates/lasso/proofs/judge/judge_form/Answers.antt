@@ -1,26 +1,28 @@
-use Rattle.std.proofs.Common.{◌≡◌, ◌<◌, length, sym, ◌∙◌, subst, arith}
+use Rattle.std.proofs.Common.{◌≡◌, ◌<◌, ◌⊎◌, length, sym, ◌∙◌, subst, inl, inr, arith}
 use Rattle.program.specs.Rows.{RowOf}
 use Rattle.document.specs.Documents.{Refers, form_at, program_at}
 use Rattle.document.specs.declared.form.Form.TheVariants.{Until}
-use Rattle.lasso.proofs.Holds.{until_so}
+use Rattle.lasso.specs.Judged.{Plain, Rests}
+use Rattle.lasso.proofs.Holds.{until_so, plain_else}
 use Rattle.lasso.proofs.judge.judge_form.Goals as goal
+use Rattle.lasso.proofs.judge.judge_form.Goals.{in-Until, in_default}
 
-pub returns-in-Until : goal.returns-in-Until
-returns-in-Until c d J j =
+pub returns : goal.returns
+returns c d J j =
     let e = c.args.e in
-    let f = c.in-Until.f in
-    let p = c.in-Until.p in
-    let g = c.in-Until.g in
+    let steps = c.args.lasso.steps.now in
+    let stem = c.args.lasso.stem in
     let b : e < length d.forms = omega (arith, J.count) in
-    let is : Until f p g ≡ form_at d e = sym c.in-Until.is ∙ c.form-form.ensures.is c.requires.form.1 ∙ J.lines e b in
-    let r : Refers d e (Until f p g) = subst (Refers d e) (sym is) (J.good.refers e b) in
-    let of = c.new-automaton.ensures.made (program_at d p) (subst (RowOf (program_at d p)) (sym c.row.ensures) (J.rows p r.1)) in
-    c.judge_until.ensures d
-    (until_so d c.args.steps.now c.args.stem c.requires.stem J.low e f p g J.good b is c.new-automaton.result of
-    c.args.truths.now c.fixed_point.new.states j c.fixed_point.ensures)
-    j
-
-pub returns-in_default : goal.returns-in_default
-returns-in_default c d J j =
-    let b : c.args.e < length d.forms = omega (arith, J.count) in
-    c.judge_plain.ensures d J.good b (c.form-form.ensures.is c.requires.form.1 ∙ J.lines c.args.e b) j
+    let held : c.form-form.result ≡ form_at d e = c.form-form.ensures.is c.requires.form.1 ∙ J.lines e b in
+    let same : c.match-form.form ≡ c.form-form.result = elim c.match-form.branch [ in-Until w ↦ w.form-is ∙ sym w.in-Until.is | in_default w ↦ w.form-is ] in
+    let kind : Plain c.form-form.result ⊎ Rests d steps stem e c.match-form.states = elim c.match-form.branch [
+      | in-Until w ↦
+          let is : Until w.in-Until.f w.in-Until.p w.in-Until.g ≡ form_at d e = sym w.in-Until.is ∙ held in
+          let r : Refers d e (Until w.in-Until.f w.in-Until.p w.in-Until.g) = subst (Refers d e) (sym is) (J.good.refers e b) in
+          let p = w.in-Until.p in
+          let of = w.new-automaton.ensures.made (program_at d p) (subst (RowOf (program_at d p)) (sym w.row.ensures) (J.rows p r.1)) in
+          let rests = until_so d steps stem c.args.lasso.inside J.low e w.in-Until.f p w.in-Until.g J.good b is w.new-automaton.result of
+          c.args.truths.now w.fixed_point.new.states j w.fixed_point.ensures in inr (subst (Rests d steps stem e) (sym w.states-is) rests)
+      | in_default w ↦ inl (plain_else c.form-form.result w.in_default.not-Until)
+    ] in
+    c.enter.ensures d J.good b (same ∙ held) (subst (λ o. Plain o ⊎ Rests d steps stem e c.match-form.states) (sym same) kind) j

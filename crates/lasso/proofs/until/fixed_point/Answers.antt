@@ -6,16 +6,16 @@ pub loop-states-init : goal.loop-states-init
 loop-states-init c = growing_none _ _ _ _ _ _ c.clear.new.words (λ i l. c.clear.ensures i (omega arith))
 
 pub loop-states-preserved : goal.loop-states-preserved
-loop-states-preserved c = growing_more _ _ _ _ _ _ c.requires.stem _ _ c.loop-states.invariant c.round.ensures
+loop-states-preserved c = growing_more _ _ _ _ _ _ c.args.lasso.inside _ _ c.loop-states.invariant c.round.ensures
 
 pub loop-states-smaller : goal.loop-states-smaller
 loop-states-smaller c =
-    let l = larger _ _ _ _ _ _ c.requires.stem _ _ c.loop-states.invariant c.round.ensures c.if-states-stem.false in
-    let b = c.round.ensures.small c.args.stem (omega arith) c.requires.stem in
+    let l = larger _ _ _ _ _ _ c.args.lasso.inside _ _ c.loop-states.invariant c.round.ensures c.if-states-lasso.false in
+    let b = c.round.ensures.small c.args.lasso.stem (omega arith) c.args.lasso.inside in
     omega arith
 
-pub returns-then-states-stem : goal.returns-then-states-stem
-returns-then-states-stem c i q l = (
-  (growing_more _ _ _ _ _ _ c.requires.stem _ _ c.loop-states.invariant c.round.ensures).sound i q l,
-  λ h. settled _ _ _ _ _ _ c.requires.stem _ _ c.loop-states.invariant c.round.ensures c.if-states-stem.true h l,
+pub returns-then-states-lasso : goal.returns-then-states-lasso
+returns-then-states-lasso c i q l = (
+  (growing_more _ _ _ _ _ _ c.args.lasso.inside _ _ c.loop-states.invariant c.round.ensures).sound i q l,
+  λ h. settled _ _ _ _ _ _ c.args.lasso.inside _ _ c.loop-states.invariant c.round.ensures c.if-states-lasso.true h l,
 )

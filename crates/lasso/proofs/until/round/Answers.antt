@@ -26,9 +26,9 @@ pub loop-i-preserved : goal.loop-i-preserved
 loop-i-preserved c =
     let i : ℕ = c.loop-i.i - 1 in
     let turn : c.loop-i.i ≡ suc i = omega arith in
-    rounded_more _ _ _ _ _ _ c.requires.stem c.args.states.now c.loop-i.states i c.entered.result (omega arith) (omega arith)
+    rounded_more _ _ _ _ _ _ c.args.lasso.inside c.args.states.now c.loop-i.states i c.entered.result (omega arith) (omega arith)
     (rounded_at c.loop-i.i (suc i) turn c.loop-i.invariant) c.entered.type_inv
-    (λ q. enters_same c.args.automaton.now _ c.entered.result q _ _ _ _ _ _ c.bit-f.ensures c.bit-g.ensures (ap (λ (k : ℕ). get_or c.loop-i.states k 0) c.after.ensures.is) (c.entered.ensures q))
+    (λ q. enters_same c.args.automaton.now _ c.entered.result q _ _ _ _ _ _ c.has-f.ensures c.has-g.ensures (ap (λ (k : ℕ). get_or c.loop-i.states k 0) c.after.ensures.is) (c.entered.ensures q))
 
 pub returns : goal.returns
 returns c = rounded_at c.loop-i.i 0 (omega arith) c.loop-i.invariant

@@ -21,10 +21,10 @@ returns c =
     let text = c.args.text.now in
     elim c.if-at-text.branch [
       | at-the-end w ↦
-          subst (λ v. FaultAt text (v + 1)) (sym w.column-is)
+          subst (λ v. FaultAt text (v + 1)) (sym w.end-is)
           (ends_early text c.read.at c.read.prefix c.read.invariant.0 w.if-at-text.true c.read.invariant.1 (sym w.is_whole.ensures ∙ w.if-is_whole.false))
       | at-a-byte w ↦
-          subst (λ v. FaultAt text (v + 1)) (sym w.column-is)
+          subst (λ v. FaultAt text (v + 1)) (sym w.end-is)
           (ends_refused text c.read.at c.read.prefix w.if-at-text.false c.read.invariant.1
           (ap (stepped c.read.prefix) (sym w.from.ensures) ∙ sym w.step.ensures ∙ w.in-None.is))
     ]

@@ -1,10 +1,10 @@
-use Rattle.std.proofs.Common.{◌-◌, ◌≤◌, true, length, take}
-use Rattle.program.specs.Steps.{stand}
+use Rattle.std.proofs.Common.{◌-◌, ◌≤◌, length, take}
+use Rattle.program.specs.Steps.{start}
 use Rattle.program.proofs.Goes.{Goes}
 use Rattle.program.proofs.check.check.Given as goal
 
 abbrev pub invariant-read : goal.invariant-read
-invariant-read l = (l.at ≤ length l.text) × Goes (stand true 0 0) (take l.at l.text) l.prefix
+invariant-read l = (l.at ≤ length l.text) × Goes start (take l.at l.text) l.prefix
 
 abbrev pub decreases-read : goal.decreases-read
 decreases-read l = length l.text - l.at

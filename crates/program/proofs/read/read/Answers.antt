@@ -6,7 +6,7 @@ use Rattle.program.specs.declared.fault.ProgramFault.TheVariants.{TooMany}
 use Rattle.program.proofs.Readers.{err_is}
 use Rattle.program.proofs.Spellings.{refused_in, row_in, one_program_in}
 use Rattle.program.proofs.Unique.{one_program}
-use Rattle.program.proofs.Whole.{malformed, whole_err, whole_end, whole_many, whole_row}
+use Rattle.program.proofs.Whole.{whole_err, whole_end, whole_many, whole_row}
 use Rattle.program.proofs.read.read.Goals as goal
 
 pub returns-in_err-whole : goal.returns-in_err-whole
@@ -14,7 +14,7 @@ returns-in_err-whole c =
     let text = c.args.text.now in
     let acts = c.args.acts.now in
     let is = sym (err_is c.from_residual-in_err-whole.ensures.1) in
-    let told = whole_err text acts c.new-draft.result c.sum.new.draft c.new-draft.ensures c.in_ok-check.ensures
+    let told = whole_err text acts c.sum.new.self.at c.new-draft.result c.sum.new.self.draft c.new-draft.ensures c.in_ok-check.ensures
     c.in_err-whole.field-0.0 c.in_err-whole.ensures.reads in
     record {
       names = search rules;
@@ -24,9 +24,9 @@ returns-in_err-whole c =
       spells = subst (λ r. MatchResult r (SpellsRowIn text (map spelled acts)) (RefusedIn text (map spelled acts))) is (refused_in text acts _ told);
     }
 
-pub returns-then-whole-text : goal.returns-then-whole-text
-returns-then-whole-text c =
-    let e = whole_end c.args.text.now c.args.acts.now c.new-draft.result c.sum.new.draft c.new-draft.ensures
+pub returns-then-reader-text : goal.returns-then-reader-text
+returns-then-reader-text c =
+    let e = whole_end c.args.text.now c.args.acts.now c.sum.new.self.at c.new-draft.result c.sum.new.self.draft c.new-draft.ensures
     c.in_ok-check.ensures c.in_ok-whole.whole c.in_ok-whole.ensures.reads in
     record {
       names = search rules;
@@ -36,10 +36,10 @@ returns-then-whole-text c =
       spells = absurd (omega arith);
     }
 
-pub returns-then-draft-gt15 : goal.returns-then-draft-gt15
-returns-then-draft-gt15 c =
-    let told = whole_many c.args.text.now c.args.acts.now c.new-draft.result c.sum.new.draft c.new-draft.ensures
-    c.in_ok-check.ensures c.in_ok-whole.whole c.in_ok-whole.ensures.reads c.if-draft-gt15.true in
+pub returns-then-names-gt15 : goal.returns-then-names-gt15
+returns-then-names-gt15 c =
+    let told = whole_many c.args.text.now c.args.acts.now c.sum.new.self.at c.new-draft.result c.sum.new.self.draft c.new-draft.ensures
+    c.in_ok-check.ensures c.in_ok-whole.whole c.in_ok-whole.ensures.reads c.if-names-gt15.true in
     record {
       names = search rules;
       one = one_program;
@@ -50,8 +50,8 @@ returns-then-draft-gt15 c =
 
 pub returns : goal.returns
 returns c =
-    let told = whole_row c.args.text.now c.args.acts.now c.new-draft.result c.sum.new.draft c.new-draft.ensures
-    c.in_ok-check.ensures c.in_ok-whole.whole c.in_ok-whole.ensures.reads c.if-draft-gt15.false in
+    let told = whole_row c.args.text.now c.args.acts.now c.sum.new.self.at c.new-draft.result c.sum.new.self.draft c.new-draft.ensures
+    c.in_ok-check.ensures c.in_ok-whole.whole c.in_ok-whole.ensures.reads c.if-names-gt15.false in
     record {
       names = search rules;
       one = one_program;
@@ -61,15 +61,4 @@ returns c =
     }
 
 pub returns-in_err-check : goal.returns-in_err-check
-returns-in_err-check c =
-    let text = c.args.text.now in
-    let acts = c.args.acts.now in
-    let is = sym (err_is c.from_residual.ensures.1) in
-    let told = malformed text acts c.in_err-check.field-0.0 c.in_err-check.ensures in
-    record {
-      names = search rules;
-      one = one_program;
-      says = subst (λ r. MatchResult r (SpellsRow text acts) (Refused text acts)) is told;
-      one_in = one_program_in;
-      spells = subst (λ r. MatchResult r (SpellsRowIn text (map spelled acts)) (RefusedIn text (map spelled acts))) is (refused_in text acts _ told);
-    }
+returns-in_err-check c = record { names = search rules; one = one_program; says = search rules; one_in = one_program_in; spells = search rules }

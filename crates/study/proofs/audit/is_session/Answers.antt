@@ -8,8 +8,8 @@ pub loop-i-preserved : goal.loop-i-preserved
 loop-i-preserved g c =
     let m = g.S.System.meaning c.args.system in
     let d = c.args.declared in
-    let xs = c.args.steps.now in
-    below_more (λ k. StepGoes m d (step_in xs k) (step_in xs (next_place (length xs) c.args.stem k)).state) c.loop-i.i c.loop-i.invariant
+    let xs = c.args.lasso.steps.now in
+    below_more (λ k. StepGoes m d (step_in xs k) (step_in xs (next_place (length xs) c.args.lasso.stem k)).state) c.loop-i.i c.loop-i.invariant
     (subst (λ n. StepGoes m d (step_in xs c.loop-i.i) (step_in xs n).state) c.after.ensures.is (c.if-not-step_goes.ensures.0 refl))
 
 pub returns : goal.returns

@@ -1,4 +1,4 @@
-use Rattle.std.proofs.Common.{◌-◌, ◌≤◌, length}
+use Rattle.std.proofs.Common.{length}
 use Rattle.document.specs.Documents.{Document}
 use Rattle.tableau.specs.Growing.{Sound}
 use Rattle.tableau.specs.UnitsHeld.{UnderWay}
@@ -6,8 +6,5 @@ use Rattle.tableau.proofs.UnitsWorked.{Progress}
 use Rattle.tableau.proofs.grow.grow.Given as goal
 
 abbrev pub invariant-loop-units : goal.invariant-loop-units
-invariant-loop-units l = Sound (length l.initial.nodes) (length l.initial.edges) l.now × (l.units ≤ l.budget)
+invariant-loop-units l = Sound (length l.initial.nodes) (length l.initial.edges) l.now
     × ((d : Document) → UnderWay l.document d l.initial.nodes l.initial.edges l.initial.now → Progress d l.initial.nodes l.initial.edges l.initial.now l.units l.nodes l.edges l.now)
-
-abbrev pub decreases-loop-units : goal.decreases-loop-units
-decreases-loop-units l = l.budget - l.units

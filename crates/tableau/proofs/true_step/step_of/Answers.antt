@@ -18,6 +18,6 @@ pub returns-in_default : goal.returns-in_default
 returns-in_default c = record {
   number = tt;
   step = λ d s e q l own is.
-      let k = c.in_ok-claim.ensures d s in
-      c.in_default.not-TrueStep e q l (meant_step c.in_ok-claim.claim e q l (one_number d (meant c.in_ok-claim.claim) (step_true e q l) k.0 own (k.1 ∙ sym is)));
+      let k = c.in_ok-form.ensures d s in
+      c.in_default.not-TrueStep e q l (meant_step c.in_ok-form.field-0 e q l (one_number d (meant c.in_ok-form.field-0) (step_true e q l) k.0 own (k.1 ∙ sym is)));
 }

@@ -1,19 +1,21 @@
-use Rattle.std.proofs.Common.{ℕ, ◌+◌, ◌<◌, ◌≤◌, ◌⊎◌, List, length, get_or, set, sym, ap, ◌∙◌, subst, inl, inr, ⊎_elim, arith, length-set}
+use Rattle.std.proofs.Common.{◌≡◌, ℕ, ◌+◌, ◌<◌, ◌≤◌, ◌⊎◌, List, length, get_or, set, sym, ◌∙◌, subst, inl, inr, ⊎_elim, arith, length-set}
 use lib.Bits.{bit_or}
+use Rattle.std.proofs.lemmas.List.{set-get_or}
 use Rattle.std.proofs.lemmas.Bool.{cases_order}
 use Rattle.program.specs.Masks.{Bit, Marks}
-use Rattle.program.proofs.Bits.{bit_more, bit_read}
+use Rattle.program.proofs.Bits.{bit_more, has_bit, has_no_bit}
 use Rattle.program.proofs.row.Draft.connect.Goals as goal
-use Rattle.program.proofs.row.Draft.connect.Goals.{then-from-i-eq1, else-from-i-eq1}
+use Rattle.program.proofs.row.Draft.connect.Goals.{then-i-ge1+then-has as joins, else-i-ge1 as joins_not}
+use Rattle.program.proofs.row.Draft.connect.Goals.{else-i-ge1-via-then-i-ge1+else-has as has_not, else-i-ge1-via-else-i-ge1 as at_zero}
 
 -- the masks after the names below i
 Upto : List ℕ → List ℕ → ℕ → ℕ → ℕ → Type 0
 Upto old xs from to i = (m : ℕ) → m < 16 → Marks (get_or xs m 0) (λ n. Bit (get_or old m 0) n ⊎ ((1 ≤ m) × (m < i) × Bit from m × Bit to n))
 
-module _ (old xs : List ℕ) (from to i : ℕ) (pos : 1 ≤ i) (within : i < length xs) (inv : Upto old xs from to i) where
-  one_more : Bit from i → Upto old (set xs i (bit_or (get_or xs i 0) to)) from to (i + 1)
+module _ (old xs : List ℕ) (from to i : ℕ) (within : i < length xs) (inv : Upto old xs from to i) where
+  one_more : 1 ≤ i → Bit from i → Upto old (set xs i (bit_or (get_or xs i 0) to)) from to (i + 1)
   unfolding Upto
-  one_more f m h n l =
+  one_more pos f m h n l =
       let more = bit_more xs i to m n within in
       let was = inv m h n l in (
         λ b.
@@ -31,7 +33,7 @@ module _ (old xs : List ℕ) (from to i : ℕ) (pos : 1 ≤ i) (within : i < len
             t),
       )
 
-  none_more : (Bit from i → ⊥) → Upto old xs from to (i + 1)
+  none_more : (1 ≤ i → Bit from i → ⊥) → Upto old xs from to (i + 1)
   unfolding Upto
   none_more f m h n l =
       let was = inv m h n l in (
@@ -39,36 +41,41 @@ module _ (old xs : List ℕ) (from to i : ℕ) (pos : 1 ≤ i) (within : i < len
         λ t.
             ⊎_elim (λ x. was.1 (inl x))
             (λ x.
-            ⊎_elim (λ e. absurd (f (subst (Bit from) e x.2)))
+            ⊎_elim (λ e. absurd (f (omega (arith, x.0)) (subst (Bit from) e x.2)))
             (⊎_elim (λ low. was.1 (inr (x.0, low, x.2, x.3))) (λ high. absurd (omega (arith, x.1))))
             (cases_order m i))
             t,
       )
 
+-- the loop's invariant after the name i
+Kept : List ℕ → List ℕ → ℕ → ℕ → ℕ → Type 0
+Kept old xs from to i = (length xs ≡ 16) × Upto old xs from to i
+
+module _ (old xs ys : List ℕ) (from to i : ℕ) (within : i < 16) (inv : Kept old xs from to i) where
+  joined : 1 ≤ i → Bit from i → ys ≡ set xs i (bit_or (get_or xs i 0) to) → Kept old ys from to (i + 1)
+  unfolding Kept
+  joined pos f is =
+      rw is (length-set xs i _ ∙ inv.0, one_more old xs from to i (omega (arith, inv.0)) inv.1 pos f)
+
+  left : (1 ≤ i → Bit from i → ⊥) → ys ≡ xs → Kept old ys from to (i + 1)
+  unfolding Kept
+  left f is = rw is (inv.0, none_more old xs from to i (omega (arith, inv.0)) inv.1 f)
+
 pub loop-i-preserved : goal.loop-i-preserved
-unfolding Upto
+unfolding Kept Upto
 loop-i-preserved c =
-    let inv = c.loop-i.invariant in
-    let xs = c.loop-i.self.follow in
-    let i = c.loop-i.i in
     let from = c.args.from in
-    let to = c.args.to in
-    let old = c.args.self.now.follow in
-    let read = bit_read from i in
-    let within : i < length xs = omega (arith, inv.2) in
-    elim c.if-from-i-eq1.branch [
-      | then-from-i-eq1 w ↦
-          let e = w.self-is in (
-            ap (λ s. s.names) e ∙ inv.0,
-            ap (λ s. s.actions) e ∙ inv.1,
-            ap (λ s. length s.follow) e ∙ length-set xs i _ ∙ inv.2,
-            subst (λ s. Upto old s.follow from to (i + 1)) (sym e) (one_more old xs from to i (omega arith) within inv.3 (sym read ∙ w.if-from-i-eq1.true)),
-          )
-      | else-from-i-eq1 w ↦
-          let e = w.self-is in (
-            ap (λ s. s.names) e ∙ inv.0,
-            ap (λ s. s.actions) e ∙ inv.1,
-            ap (λ s. length s.follow) e ∙ inv.2,
-            subst (λ s. Upto old s.follow from to (i + 1)) (sym e) (none_more old xs from to i (omega arith) within inv.3 (λ b. w.if-from-i-eq1.false (read ∙ b))),
-          )
+    let i = c.loop-i.i in
+    elim c.if-i-ge1.branch [
+      | joins w ↦
+          joined c.args.self.now.follow c.loop-i.follow-items _ from c.args.to i (omega arith) c.loop-i.invariant w.if-i-ge1.true
+          (has_bit from i w.from.result w.has.result w.from.ensures w.has.ensures w.if-has.true) w.follow-items-is
+      | joins_not w ↦ elim w.else-i-ge1.branch [
+        | has_not v ↦
+            left c.args.self.now.follow c.loop-i.follow-items _ from c.args.to i (omega arith) c.loop-i.invariant
+            (λ pos. has_no_bit from i v.from.result v.has.result v.from.ensures v.has.ensures v.if-has.false) (w.follow-items-is ∙ v.follow-items-is ∙ set-get_or c.loop-i.follow-items i 0)
+        | at_zero v ↦
+            left c.args.self.now.follow c.loop-i.follow-items _ from c.args.to i (omega arith) c.loop-i.invariant
+            (λ pos b. omega (arith, pos, v.if-i-ge1.false)) (w.follow-items-is ∙ v.follow-items-is ∙ set-get_or c.loop-i.follow-items i 0)
+      ]
     ]

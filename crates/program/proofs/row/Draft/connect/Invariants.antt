@@ -4,7 +4,5 @@ use Rattle.program.proofs.row.Draft.connect.Given as goal
 
 abbrev pub invariant-loop-i : goal.invariant-loop-i
 invariant-loop-i l =
-    (l.self.names ≡ l.initial.self.names)
-    × (l.self.actions ≡ l.initial.self.actions)
-    × (length l.self.follow ≡ 16)
-    × ((m : ℕ) → m < 16 → Marks (get_or l.self.follow m 0) (λ n. Bit (get_or l.initial.self.follow m 0) n ⊎ ((1 ≤ m) × (m < l.i) × Bit l.from m × Bit l.to n)))
+    (length l.follow-items ≡ 16)
+    × ((m : ℕ) → m < 16 → Marks (get_or l.follow-items m 0) (λ n. Bit (get_or l.initial.follow-items m 0) n ⊎ ((1 ≤ m) × (m < l.i) × Bit l.from m × Bit l.to n)))

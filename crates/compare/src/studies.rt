@@ -1,0 +1,14 @@
+// The study that a case asks.
+use study::study::Study;
+use tableau::node::{Edge, Node};
+
+// A study of the document. If the document is refused the study is blank, and the call that follows refuses it.
+pub fn study_of<'n, 'e>(
+    nodes: &'n mut [Node],
+    edges: &'e mut [Edge],
+    text: &[u8],
+) -> Study<'n, 'e> {
+    let mut study = Study::new(nodes, edges);
+    let _ = study.load(text);
+    study
+}

@@ -1,8 +1,0 @@
-use Rattle.std.proofs.Common.{◌≡◌, ◌<◌, length}
-use Rattle.document.specs.Documents.{Document, WellFormed, form_at}
-use Rattle.lasso.specs.Judged.{Judged}
-use Rattle.lasso.proofs.judge.judge_plain.Given as goal
-
-abbrev pub invariant-loop-i : goal.invariant-loop-i
-invariant-loop-i l = (d : Document) → WellFormed d → l.e < length d.forms → l.form ≡ form_at d l.e
-    → Judged d l.steps l.stem l.e 0 l.initial.truths → Judged d l.steps l.stem l.e l.i l.truths
