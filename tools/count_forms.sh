@@ -1,6 +1,6 @@
 #!/bin/sh
 # Lists the places of older forms in src/, a line each, by point of docs/DESIGN-PASS.md. Run at the top; give a point's number to list one alone.
-# Tests are left out. Two points are counted by other commands: twins by `duplicates --most 60` and by reading, answers by `wc`.
+# Tests are left out. Two points are counted otherwise: twins by reading, answers by trying the check without them.
 only=$1
 files=$(find crates -path '*/src/*' ! -path '*/out/*' -name '*.rt' ! -name 'tests.rt' | sort)
 point() {

@@ -7,6 +7,7 @@ use crate::words::found_or_none;
 use lasso::step::Step;
 use std::alloc::Global;
 use system::listed::{Listed, Row, StateRecord};
+use system::moves::Moves;
 use system::system::System;
 use tableau::node::{Edge, Node};
 
@@ -43,8 +44,7 @@ fn wheel_rows(heap: Global, groups: usize) -> anyhow::Result<Vec<Row>> {
     let wheel = Wheel { groups };
     let mut rows = Vec::new(heap);
     for from in 0..wheel.count() {
-        let moves = (0..wheel.moves(from)).filter_map(|k| wheel.move_at(from, k));
-        for step in moves {
+        for step in Moves::of(wheel, from) {
             rows.push(Row {
                 from,
                 action: step.action,

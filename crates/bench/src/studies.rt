@@ -2,6 +2,7 @@
 use study::study::Study;
 use tableau::node::{Edge, Node};
 
+// Kept: beside that of `compare`: the two programs have no library in common but the engine's, which passes over no refusal.
 // A study of the document. If the document is refused the study is blank, and the call that follows refuses it.
 pub fn study_of<'n, 'e>(
     nodes: &'n mut [Node],

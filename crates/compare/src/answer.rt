@@ -25,8 +25,7 @@ pub struct Progress {
 }
 
 // How a goal was settled.
-// Kept: an enum of this program's own, as that of `verdict`: the one tells whether the lasso was confirmed, the other how long
-// its text is.
+// Kept: beside the enum of `verdict`, which tells how long the text of a lasso is; this one tells whether the lasso was confirmed.
 #[derive(Clone, Copy)]
 pub enum How {
     // A lasso was found; `confirmed` if the engine's own judge or audit says yes to it.

@@ -7,6 +7,7 @@ use std::alloc::Global;
 // Places that a record may ask for.
 pub const MOST_PLACES: usize = 4194304;
 
+// Kept: the heap stands beside a cursor as a parameter of the readers that need it; others, as that of `load`, read without one.
 #[derive(Drop)]
 pub struct Cursor<'a> {
     file: &'a [u8],
@@ -41,7 +42,7 @@ fn decimal(word: &[u8]) -> Option<u64> {
         }
         value = value.checked_mul(10)?.checked_add(u64::from(*byte - b'0'))?;
     }
-    if word.is_empty() { None } else { Some(value) }
+    (!word.is_empty()).then_some(value)
 }
 
 impl<'a> Cursor<'a> {
@@ -93,7 +94,7 @@ impl<'a> Cursor<'a> {
     {
         let stop = self.malformed();
         let value = self.number()?;
-        if value <= most { Ok(value) } else { Err(stop) }
+        (value <= most).then_some(value).ok_or(stop)
     }
 
     // A number of places.

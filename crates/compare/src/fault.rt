@@ -13,7 +13,8 @@ use std::fmt;
 use study::refusal::{Refusal, TextFault};
 
 // What the engine refuses.
-// Kept: a text's fault by its code and not by its enum, since faults of two kinds are written in one way.
+// Kept: a text's fault by its numbers and no enum of the faults: so the clauses of the conversions below say which numbers are
+// written.
 #[derive(Clone, Copy)]
 pub enum Refused {
     Call(Refusal),

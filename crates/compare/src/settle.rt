@@ -36,6 +36,7 @@ pub fn settled<J: FnOnce(&[Step], usize, &mut [u64]) -> Result<bool, Refusal>>(
     let how = match found {
         None => How::None,
         Some(found) => {
+            // Kept: a `match` and no `map_or`, for the `?` inside.
             let confirmed = match steps.get(..found.len) {
                 Some(lasso) => is_confirmed(heap, lasso, found.stem, judge)?,
                 None => false,

@@ -1,7 +1,6 @@
 -- The pieces of a list: its first piece, and the rest.
-use Rattle.std.proofs.Common.{◌≡◌, ℕ, zero, suc, ◌+◌, ◌-◌, ◌<◌, ◌≤◌, Bool, true, false, cond, eqb, ltb, ltb-false, List, [], ◌∷◌, length, get_or, take, drop, Some, None, sym, refl, ap, ◌∙◌, arith}
+use Rattle.std.proofs.Common.{◌≡◌, ℕ, zero, suc, ◌+◌, ◌<◌, ◌≤◌, Bool, true, false, cond, eqb, ltb, ltb-false, List, [], ◌∷◌, length, get_or, take, drop, Some, None, refl, ap, ◌∙◌, arith}
 use Rattle.std.specs.List.{count_by, position, position_or_len, slice_split, onto_first}
-use Rattle.std.proofs.lemmas.List.{get_or-drop, length-drop, drop-drop}
 use Rattle.std.proofs.lemmas.List.Splits.{length-slice_split}
 use Rattle.std.proofs.lemmas.Bool.{cond-true, cond-false, eq-eqb, ne_eqb}
 use Rattle.document.specs.Texts.{pieces, put_first}
@@ -31,22 +30,6 @@ pieces_first b (suc k) (x ∷ xs) l h e =
 -- the byte b stands at none of the places from at on below end
 abbrev pub Clear : ℕ → List ℕ → ℕ → ℕ → Type 0
 Clear b xs at end = (k : ℕ) → at ≤ k → k < end → get_or xs k 0 ≡ b → ⊥
-
--- the last piece
-pub piece_last : (b : ℕ) (xs : List ℕ) (at : ℕ) → Clear b xs at (length xs) → pieces b (drop at xs) ≡ drop at xs ∷ []
-piece_last b xs at h =
-    pieces_none b (drop at xs) (λ k l e. let long = length-drop at xs in h (at + k) (omega arith) (omega arith) (sym (get_or-drop at xs k 0) ∙ e))
-
--- a piece that is followed by b
-pub piece_next : (b : ℕ) (xs : List ℕ) (at end : ℕ) → at ≤ end → end < length xs → Clear b xs at end → get_or xs end 0 ≡ b
-    → pieces b (drop at xs) ≡ take (end - at) (drop at xs) ∷ pieces b (drop (end + 1) xs)
-piece_next b xs at end low less h here =
-    let long = length-drop at xs in
-    let sum : at + (end - at) ≡ end = omega arith in
-    let next : at + suc (end - at) ≡ end + 1 = omega arith in
-    pieces_first b (end - at) (drop at xs) (omega arith) (λ j l e. h (at + j) (omega arith) (omega arith) (sym (get_or-drop at xs j 0) ∙ e))
-    (get_or-drop at xs (end - at) 0 ∙ ap (λ k. get_or xs k 0) sum ∙ here)
-    ∙ ap (λ r. take (end - at) (drop at xs) ∷ pieces b r) (drop-drop (suc (end - at)) at xs ∙ ap (λ k. drop k xs) next)
 
 put_onto : (x : ℕ) (ps : List (List ℕ)) → put_first x ps ≡ onto_first x ps
 put_onto x [] = refl

@@ -15,7 +15,7 @@ fn place(text: &[u8], byte: u8) -> Option<usize>
 }
 
 // Where the byte next stands at or after `at`, or the length.
-// Kept: public as before. The lines of a text are told by `Lines`.
+// Kept: nothing here calls it, the lines of a text are told by `Lines`; by a rule of the project no public promise goes.
 pub fn next_place(text: &[u8], at: usize, byte: u8) -> usize
     requires { at ≤ length text.now }
     ensures within { (at ≤ result) × (result ≤ length text.now) }

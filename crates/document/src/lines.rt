@@ -80,7 +80,8 @@ fn new_name(names: &Names, line: &[u8], limit: usize) -> Result<Name, LineFault>
 }
 
 // `act NAME`
-// Kept: this and `prop_line` differ in the kind alone, as `with_act` and `with_prop` do.
+// Kept: this and `prop_line` differ in the kind alone; one function for both would need what `with_act` and `with_prop` lack, a
+// clause that says for each kind which names grow.
 fn act_line(declared: Declared, line: &[u8]) -> Result<Declared, LineFault>
     ensures { word_in line.now ≡ codes "act" → Told declared line.now result }
 {
@@ -221,7 +222,8 @@ pub fn goal_line(declared: Declared, line: &[u8]) -> Result<Document, LineFault>
 }
 
 // A line that declares something.
-// Kept: a `match` over the words that a line begins with; each kind of line has a reader of its own.
+// Kept: a `match` over the words that a line begins with; a table of the readers would be no plainer, and the goal line is read
+// elsewhere.
 pub fn declaration(declared: Declared, line: &[u8]) -> Result<Declared, LineFault>
     ensures { (word_in line.now ≢ codes "goal") → Told declared line.now result }
 {

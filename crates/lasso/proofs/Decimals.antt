@@ -1,7 +1,6 @@
 -- Numbers in decimal, digit by digit.
-use Rattle.std.proofs.Common.{◌≡◌, ℕ, ◌+◌, ◌-◌, ◌*◌, ◌/◌, ◌%◌, ◌<◌, ◌≤◌, List, [], ◌∷◌, ◌++◌, length, get_or, take, sym, refl, ap, ◌∙◌, subst, ⊎_elim, arith}
+use Rattle.std.proofs.Common.{◌≡◌, ℕ, ◌+◌, ◌-◌, ◌*◌, ◌/◌, ◌%◌, ◌<◌, ◌≤◌, List, [], ◌∷◌, ◌++◌, length, get_or, sym, refl, ap, ◌∙◌, subst, ⊎_elim, arith}
 use Rattle.std.specs.List.{AllByRecursion}
-use Rattle.std.proofs.lemmas.List.{take_more}
 use Rattle.std.proofs.lemmas.Bool.{cases_lt, le-leb, lt-leb}
 use Rattle.lasso.specs.LassoTexts.{decimal, digits}
 
@@ -14,19 +13,9 @@ number_push : (v : ℕ) (ds : List ℕ) (d : ℕ) → number v (ds ++ d ∷ []) 
 number_push v [] d = refl
 number_push v (e ∷ ds) d = number_push (v * 10 + (e - 48)) ds d
 
-pub number_more : (field : List ℕ) (k : ℕ) → k < length field → number 0 (take (k + 1) field) ≡ number 0 (take k field) * 10 + (get_or field k 0 - 48)
-number_more field k h = ap (number 0) (take_more field k 0 h) ∙ number_push 0 (take k field) (get_or field k 0)
-
 -- 0 to 9
 abbrev pub Digit : ℕ → Type 0
 Digit b = (48 ≤ b) × (b ≤ 57)
-
-pub number_small : (ds : List ℕ) → length ds ≤ 3 → AllByRecursion Digit ds → number 0 ds ≤ 999
-number_small [] h all = omega arith
-number_small (a ∷ []) h all = omega (arith, all.0)
-number_small (a ∷ b ∷ []) h all = omega (arith, all.0, all.1.0)
-number_small (a ∷ b ∷ c ∷ []) h all = omega (arith, all.0, all.1.0, all.1.1.0)
-number_small (a ∷ b ∷ c ∷ d ∷ ds) h all = absurd (omega arith)
 
 -- up to four digits, the first no 0 unless it stands alone
 pub record Numeral (field : List ℕ) : Type 0 where

@@ -52,6 +52,8 @@ pub struct Scanned {
 }
 
 // The marks of a field.
+// Kept: that there are at most 16 propositions is required here and where marks are written: names of all kinds are one type,
+// of up to 64.
 #[derive(Clone, Copy, PartialEq, Eq, Debug)]
 struct Marks {
     // None once a name is not declared

@@ -8,7 +8,7 @@ use program::automaton::Automaton;
 use program::masks;
 
 // The step after step i, of `len` steps.
-// Kept: a public function of its own; the method of `Lasso` calls it.
+// Kept: the method of `Lasso` calls it; by a rule of the project no public promise goes.
 pub fn after(i: usize, len: usize, stem: usize) -> usize
     requires { (i < len) × (stem < len) }
     ensures is { result ≡ next_place len stem i }
@@ -18,7 +18,7 @@ pub fn after(i: usize, len: usize, stem: usize) -> usize
 }
 
 // Makes each word 0.
-// Kept: a public function of one call; its clause speaks of the words one by one.
+// Kept: one call of std's `fill`; by a rule of the project no public promise goes.
 pub fn clear(words: &mut [u64])
     ensures { (k : ℕ) → k < length words.old → slice_index words.new k ≡ 0 }
 {

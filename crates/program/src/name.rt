@@ -66,7 +66,7 @@ impl Name {
         &self.bytes[..self.len.min(16)]
     }
 
-    // Kept: this and `byte` are public as before; the bytes are read by `as_bytes`.
+    // Kept: the bytes are read by `as_bytes`, not by this and `byte`; by a rule of the project no public promise goes.
     pub fn len(&self) -> usize
         ensures is { result ≡ length (spelled self.now) }
         ensures few { result ≤ 16 }

@@ -98,7 +98,7 @@ impl<'t, 'n> Reader<'t, 'n> {
     }
 
     // A name or a sum in parentheses.
-    // Kept: the readers of the parts call each other, as the parts stand in each other.
+    // Kept: the readers of the parts call each other, as the project asks, since the parts stand in each other.
     #[cycle(atom_factor_sequence_sum)]
     fn atom(&mut self) -> Result<Part, ProgramFault>
         ensures same { SameTexts self.old self.new }

@@ -10,6 +10,8 @@ use system::system::System;
 fn has_move<S: System>(system: S, state: usize, action: u8, target: usize) -> bool
     ensures { Decides result (Goes ((S.meaning system).moves state) action target) }
 {
+    // Kept: a `for` over places and no `any` over `Moves`. Tried: what is then left to show speaks of the whole list of moves,
+    // and the iterator's clause of one move after another; the check did not close it.
     for k in 0..system.moves(state) {
         let step = system.move_at(state, k);
         if step.is_some_and(|m| m.action == action && m.target == target) {

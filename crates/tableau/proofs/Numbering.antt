@@ -1,5 +1,5 @@
 -- Claims of a document and their numbers are one to one.
-use Rattle.std.proofs.Common.{◌≡◌, ℕ, zero, suc, ◌+◌, ◌-◌, ◌*◌, ◌/◌, ◌%◌, ◌<◌, ◌≤◌, true, false, cond, eqb, ltb, List, [], ◌∷◌, length, get_or, take, sym, refl, ap, ◌∙◌, subst, inl, inr, mod-eq_of_lt, div-add-mod', arith}
+use Rattle.std.proofs.Common.{◌≡◌, ℕ, zero, suc, ◌+◌, ◌-◌, ◌*◌, ◌/◌, ◌%◌, ◌<◌, ◌≤◌, true, false, cond, eqb, ltb, List, [], ◌∷◌, length, get_or, take, sym, refl, ap, ◌∙◌, subst, inl, inr, arith}
 use Rattle.program.specs.Words.{Program}
 use Rattle.program.specs.Automata.{names}
 use Rattle.program.specs.Rows.{RowOf}
@@ -13,7 +13,6 @@ use Rattle.document.specs.declared.names.Names.{Names}
 use Rattle.document.specs.declared.form.Form.TheVariants.{True, Prop, Not, And, Or, Next, Until}
 use Rattle.std.proofs.lemmas.Bool.{both_ways, cond_both, lt-ltb, cases_lt}
 use lib.Arith.{digits_div, digits_mod}
-use Rattle.std.proofs.lemmas.Nat.{div_below, mod_below}
 use Rattle.tableau.specs.Graphs.{Sign.T, Sign.F, Claim, form, until_true, until_false, step_true, step_false, program_of}
 use Rattle.tableau.specs.Numbers.{is_until, base, states, speaks_of, place_in, number_of, StateOf, ClaimOf, ClaimAt, Shows}
 
@@ -199,24 +198,6 @@ number_fits held d s k c e b place same is at =
     let w = base_within d (speaks_of k) there in
     omega arith
 
--- the last run of an until
-pub last_run : (d : Document) (e place count : ℕ) → StateOf d e 0 → count ≡ states d e → 1 ≤ count → count ≤ 16 → place < 6 * count → 5 ≤ place / count → ClaimAt d e place (step_false e (place % count % 16))
-last_run d e place count s is some few l five =
-    let below = div_below place count 6 some l in
-    let run : place / count ≡ 5 = omega arith in
-    let whole : 5 * count + place % count ≡ place = ap (λ r. r * count + place % count) (sym run) ∙ div-add-mod' place count in
-    let low = mod_below place count some in
-    let low16 : place % count % 16 ≡ place % count = mod_small (place % count) 16 (omega arith) in
-    let known : place % count % 16 < states d e = omega arith in
-    record {
-      own = record { there = s.there; fated = s.fated; known = known };
-      speaks = refl;
-      stands = omega arith;
-    }
-  where
-    mod_small : (n m : ℕ) → n < m → n % m ≡ n
-    mod_small n m h = mod-eq_of_lt h
-
 -- what a form's claim at a place makes of a number
 pub numbered : (held : Declared) (d : Document) → Shows held d → (e c first : ℕ) (k : Claim) → e < length d.forms → first ≡ base_in held.lines e → first ≤ c → ClaimAt d e (c - first) k → ClaimOf d k × (number_of d k ≡ c)
 unfolding number_of
@@ -258,16 +239,6 @@ plain_next f a g is = ap is_until is
 
 pub plain_prop : (f : Form) (p : ℕ) → f ≡ Prop p → is_until f ≡ false
 plain_prop f p is = ap is_until is
-
--- an until has two operands and a program
-pub fated_until : (f : Form) → is_until f ≡ true → (g : ℕ) × (p : ℕ) × (h : ℕ) × (f ≡ Until g p h)
-fated_until True u = absurd (both_ways _ refl u)
-fated_until (Prop p) u = absurd (both_ways _ refl u)
-fated_until (Not f) u = absurd (both_ways _ refl u)
-fated_until (And f g) u = absurd (both_ways _ refl u)
-fated_until (Or f g) u = absurd (both_ways _ refl u)
-fated_until (Next a f) u = absurd (both_ways _ refl u)
-fated_until (Until f p g) u = (f, p, g, refl)
 
 -- the numbers of claims T step: below 256, and each of one claim only
 pub step_below : (d : Document) (e q l : ℕ) → WellFormed d → StateOf d e q → l < 2 → number_of d (step_true e q l) < 256

@@ -3,17 +3,15 @@ use Rattle.std.proofs.Common.{◌≡◌, ℕ, suc, ◌+◌, ◌-◌, ◌<◌, �
 use native.Mathlib.Nat.{le-min}
 use Rattle.document.specs.Documents.{Document}
 use Rattle.document.specs.declared.document.Document.{Document as Kept}
-use Rattle.tableau.specs.Graphs.{Tables}
 use Rattle.tableau.specs.Growing.{Sound, Later}
 use Rattle.tableau.specs.Held.{node_of, edge_of, tables_of}
 use Rattle.tableau.specs.Nodes.{node_at, edge_at}
 use Rattle.tableau.specs.Stock.{Stocked}
 use Rattle.tableau.specs.Tables.{Room}
 use Rattle.tableau.specs.Units.{FirstUnit, NextUnit}
-use Rattle.tableau.specs.UnitsHeld.{WorkedUnit, GivenUp, UnderWay, WorksUnit, Grew}
-use Rattle.tableau.specs.Working.{places_of, empty, UnitOf, Units, Units.none, Units.one_more, Fits, NoneLeft}
+use Rattle.tableau.specs.UnitsHeld.{WorkedUnit, UnderWay, WorksUnit}
+use Rattle.tableau.specs.Working.{places_of, empty, UnitOf, Units, Units.none, Units.one_more, Fits}
 use Rattle.tableau.specs.declared.grow.Grown.{Grown}
-use Rattle.tableau.specs.declared.grow.Report.TheVariants.{Complete, Full, More}
 use Rattle.tableau.specs.declared.node.Node.{Node}
 use Rattle.tableau.specs.declared.node.Edge.{Edge}
 use Rattle.tableau.specs.declared.node.Used.{Used}
@@ -136,54 +134,3 @@ progress_more d nodes mid nodes' edges midst edges' g m h n ln le p w =
       counted = omega arith;
       fits = subst (λ v. Fits (places_of v (length edges)) (tables_of d nodes' edges' h.used)) ln (subst (λ v. Fits (places_of (length mid) v) (tables_of d nodes' edges' h.used)) le w.fits);
     }
-
--- none is left exactly where the units are more than the nodes
-left_none : (d : Document) (nodes nodes' : List Node) (edges edges' : List Edge) (h : Grown) → length nodes' ≡ length nodes → Sound (length nodes) (length edges) h → h.used.nodes < h.units → NoneLeft h.units (tables_of d nodes' edges' h.used)
-left_none d nodes nodes' edges edges' h ln sound beyond =
-    let r = sound.room.node_places in
-    let w = sound.worked in
-    let a = length_shown (node_of d) nodes' h.used.nodes (omega arith) in
-    omega arith
-
-left_some : (d : Document) (nodes nodes' : List Node) (edges edges' : List Edge) (h : Grown) → length nodes' ≡ length nodes → Sound (length nodes) (length edges) h → h.units ≤ h.used.nodes → NoneLeft h.units (tables_of d nodes' edges' h.used) → ⊥
-left_some d nodes nodes' edges edges' h ln sound less e =
-    let r = sound.room.node_places in
-    let a = length_shown (node_of d) nodes' h.used.nodes (omega arith) in
-    omega arith
-
--- the next unit does not fit
-pub grew_full : (d : Document) (nodes mid nodes' : List Node) (edges midst edges' : List Edge) (g m : Grown) (n b : ℕ) → length mid ≡ length nodes → length midst ≡ length edges → Sound (length nodes) (length edges) m → m.units ≤ m.used.nodes → n < b
-    → Progress d nodes edges g n mid midst m → GivenUp d mid midst m nodes' edges' → Grew d nodes edges g b nodes' edges' m (record { units = n; report = Full })
-grew_full d nodes mid nodes' edges midst edges' g m n b ln le sound due low p w =
-    let c = p.counted in
-    let to : tables_of d mid midst m.used ≡ tables_of d nodes' edges' m.used = sym w.same in
-    record {
-      stock = w.stock;
-      counted = c;
-      grows = record {
-        worked = subst (Units d g.units n (tables_of d nodes edges g.used)) to p.units;
-        within = omega arith;
-        fits = subst (Fits (places_of (length nodes) (length edges))) to p.fits;
-        reports = subst (λ t. (NoneLeft (g.units + n) t → ⊥) × (n < b) × ((v : Tables) → UnitOf d (g.units + n) t v → Fits (places_of (length nodes) (length edges)) v → ⊥)) to (
-          subst (λ k. NoneLeft k (tables_of d mid midst m.used) → ⊥) c (left_some d nodes mid edges midst m ln sound due),
-          low,
-          subst (λ k. (v : Tables) → UnitOf d k (tables_of d mid midst m.used) v → Fits (places_of (length nodes) (length edges)) v → ⊥) c
-              (subst (λ e. (v : Tables) → UnitOf d m.units (tables_of d mid midst m.used) v → Fits (places_of (length nodes) e) v → ⊥) le
-              (subst (λ e. (v : Tables) → UnitOf d m.units (tables_of d mid midst m.used) v → Fits (places_of e (length midst)) v → ⊥) ln w.unfit)),
-        );
-      };
-    }
-
-pub grew_complete : (d : Document) (nodes mid : List Node) (edges midst : List Edge) (g m : Grown) (n b : ℕ) → length mid ≡ length nodes → Sound (length nodes) (length edges) m → m.used.nodes < m.units → n ≤ b → Progress d nodes edges g n mid midst m → Grew d nodes edges g b mid midst m (record { units = n; report = Complete })
-grew_complete d nodes mid edges midst g m n b ln sound beyond low p = record {
-  stock = p.stock;
-  counted = p.counted;
-  grows = record { worked = p.units; within = low; fits = p.fits; reports = subst (λ k. NoneLeft k (tables_of d mid midst m.used)) p.counted (left_none d nodes mid edges midst m ln sound beyond) };
-}
-
-pub grew_more : (d : Document) (nodes mid : List Node) (edges midst : List Edge) (g m : Grown) (n b : ℕ) → length mid ≡ length nodes → Sound (length nodes) (length edges) m → m.units ≤ m.used.nodes → n ≡ b → Progress d nodes edges g n mid midst m → Grew d nodes edges g b mid midst m (record { units = n; report = More })
-grew_more d nodes mid edges midst g m n b ln sound due spent p = record {
-  stock = p.stock;
-  counted = p.counted;
-  grows = record { worked = p.units; within = omega arith; fits = p.fits; reports = (subst (λ k. NoneLeft k (tables_of d mid midst m.used) → ⊥) p.counted (left_some d nodes mid edges midst m ln sound due), spent) };
-}

@@ -31,8 +31,8 @@ impl ClaimSet {
     }
 
     // Whether the two have the same claims.
-    // Kept: a loop over the words. Sets with different words differ only because a word is below 2^64, and a `==` (derived,
-    // or of the arrays) does not hand that on; reading a word does.
+    // Kept: a loop over the words. That sets with different words differ rests on each word being below 2^64. The loop reads
+    // each word and so knows it; what a `==` says (derived, or of the arrays: tried) leaves it open.
     pub fn same(&self, other: &ClaimSet) -> bool
         ensures { MatchBool result (Same (member self.now.words) (member other.now.words)) (Same (member self.now.words) (member other.now.words) → ⊥) }
     {

@@ -13,6 +13,7 @@ use document::declared::Declared;
 use document::document::Document;
 use std::fmt;
 
+// Kept: the tables are lent beside it, as two parameters, so each function that works units requires that it fits them (`Sound`).
 // How far the graph has grown: the units worked, the nodes that the first unit entered, and the places in use. Unit
 // number k + 1 opens node k.
 #[derive(Clone, Copy, PartialEq, Eq, Default, Debug)]

@@ -42,7 +42,7 @@ struct Decided {
 }
 
 // Why there is nothing to decide: the refusal's number, and the line that is refused or 0.
-// Kept: the two numbers and no enum, since refusals of two kinds are written in one way.
+// Kept: the two numbers and no enum of the two faults: so the clauses of the conversions below say which numbers are written.
 #[derive(Clone, Copy)]
 struct Refused {
     code: u8,

@@ -1,29 +1,10 @@
-use Rattle.std.proofs.Common.{refl, ◌≡◌, MatchOption, Bool, true, false, Option, length, take, sym, ap, ◌∙◌, subst, ⊎_elim, arith}
+use Rattle.std.proofs.Common.{refl, ◌≡◌, MatchOption, Bool, true, false, Option, length, sym, ap, ◌∙◌, subst, ⊎_elim, arith}
 use Rattle.std.specs.Bool.{then_some}
 use Rattle.std.specs.List.{AllByRecursion}
 use Rattle.std.proofs.lemmas.Bool.{eqb-false, leb-true, leb-false}
-use Rattle.std.proofs.lemmas.List.{length-take-le, take_all}
-use Rattle.std.proofs.ByRecursion.{All-more}
-use Rattle.lasso.proofs.Decimals.{number, number_more, number_small, Digit, Numeral, numeral_is, decimal_spells}
+use Rattle.std.proofs.lemmas.List.{take_all}
+use Rattle.lasso.proofs.Decimals.{number, Digit, Numeral, numeral_is, decimal_spells}
 use Rattle.lasso.proofs.decimal.read_state.Goals as goal
-
-pub overflow_mul-value : goal.overflow_mul-value
-overflow_mul-value c =
-    let field = c.args.field.now in
-    let ds = take c.loop-b.b-index field in
-    let small = number_small ds (omega (arith, length-take-le c.loop-b.b-index field (omega arith))) c.loop-b.invariant.1 in omega arith
-
-pub overflow_add-value : goal.overflow_add-value
-overflow_add-value c =
-    let field = c.args.field.now in
-    let ds = take c.loop-b.b-index field in
-    let small = number_small ds (omega (arith, length-take-le c.loop-b.b-index field (omega arith))) c.loop-b.invariant.1 in omega arith
-
-pub loop-b-preserved : goal.loop-b-preserved
-loop-b-preserved c =
-    let field = c.args.field.now in
-    let more = number_more field c.loop-b.b-index (omega arith) in
-    (omega arith, All-more Digit field c.loop-b.b-index 0 (omega arith) c.loop-b.invariant.1 (omega arith, omega arith))
 
 -- what the test says, of the number or of none
 picked : {T : Type 0} (P : Type 0) (Q : T → Type 0) (b : Bool) (x : T) (r : Option T) → r ≡ then_some b x → (b ≡ true → Q x) → (b ≡ false → P) → MatchOption r P Q

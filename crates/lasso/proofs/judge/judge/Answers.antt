@@ -12,7 +12,7 @@ use Rattle.lasso.specs.declared.step.Step.{Step}
 use Rattle.lasso.proofs.Alike.{truth_alike}
 use Rattle.lasso.proofs.Decided.{truth_decided}
 use Rattle.lasso.proofs.Meetings.{meets_alike}
-use Rattle.lasso.proofs.Truths.{judged_none, judged_tells}
+use Rattle.lasso.proofs.Truths.{judged_tells}
 use Rattle.lasso.proofs.judge.judge.Goals as goal
 
 judges : (held : Held) (steps : List Step) (stem : ℕ) → IsLasso held.declared.acts.count held.declared.props.count steps stem
@@ -26,9 +26,6 @@ judges held steps stem lasso d same good = record {
       let b = ltb-true (step_in steps i).action held.declared.acts.count (and_parts _ _ (lasso.declared i l)).0 in
       omega (arith, same.acts, good.few_acts);
 }
-
-pub loop-e-init : goal.loop-e-init
-loop-e-init c d J = judged_none d c.args.lasso.steps.now c.args.lasso.stem c.clear.new.words (λ k l. c.clear.ensures k (omega arith))
 
 pub loop-e-preserved : goal.loop-e-preserved
 loop-e-preserved c d J = c.judge_form.ensures d J (c.loop-e.invariant d J)

@@ -68,10 +68,3 @@ returns-clause-outcome c =
     (fills.0, fills.1, tallied_too (acts_of d) (props_of d) c.args.text.now t v fills.0 fills.1) in
     scan_taken (acts_of d) (props_of d) c.args.text.now (length before) t w c.in_ok-stem.stem c.in_ok-stem.ensures.ok_part c.if-stem-seen.false
     c.if-seen-gt-MOST_STEPS.false before c.fill.new.steps refl c.if-seen-steps.false fills.2
-
-pub returns-clause-bounds : goal.returns-clause-bounds
-returns-clause-bounds c =
-    let d = c.args.document.now.declared in
-    let t = c.in_ok-seen.seen in
-    let v = subst (λ (d : Declared). Surveyed (acts_of d) (props_of d) c.args.text.now t) c.declared-declared.ensures c.in_ok-seen.ensures in
-    let within = (v.2.ordered c.in_ok-stem.stem c.in_ok-stem.ensures.ok_part).0 in (omega (arith, within), omega arith, omega arith)

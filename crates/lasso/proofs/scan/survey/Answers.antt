@@ -1,4 +1,4 @@
-use Rattle.std.proofs.Common.{◌≡◌, ℕ, ◌+◌, List, Some, sym, subst, rules}
+use Rattle.std.proofs.Common.{◌≡◌, ◌+◌, sym, subst, rules}
 use Rattle.document.specs.Faults.{line_fault_code}
 use Rattle.document.specs.Texts.{pieces}
 use Rattle.document.specs.declared.fault.LineAt.{LineAt}
@@ -6,16 +6,8 @@ use Rattle.lasso.specs.DeclaredNames.{acts_of, props_of}
 use Rattle.lasso.specs.LassoLines.{FirstFault}
 use Rattle.lasso.proofs.Options.{must_err, must_ok}
 use Rattle.lasso.proofs.StepLines.{exit_at}
-use Rattle.lasso.proofs.Surveys.{Passed, passed_none, passed_refused, passed_more, passed_all}
+use Rattle.lasso.proofs.Surveys.{passed_refused, passed_more, passed_all}
 use Rattle.lasso.proofs.scan.survey.Goals as goal
-
-pub loop-line-init : goal.loop-line-init
-loop-line-init c =
-    let acts = acts_of c.args.declared.now in
-    let props = props_of c.args.declared.now in
-    let text = c.args.text.now in
-    let same : text ≡ c.into_iter-line-iterator.result.left.now = cc in
-    (tt, tt, subst (λ (l : List ℕ). Passed acts props text l (record { steps = 0; stem = Some 0 })) same (passed_none acts props text))
 
 pub returns-in_err-read : goal.returns-in_err-read
 returns-in_err-read c =

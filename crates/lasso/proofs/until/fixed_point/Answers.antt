@@ -1,9 +1,6 @@
 use Rattle.std.proofs.Common.{arith}
-use Rattle.lasso.proofs.Rounds.{growing_none, growing_more, larger, settled}
+use Rattle.lasso.proofs.Rounds.{growing_more, larger, settled}
 use Rattle.lasso.proofs.until.fixed_point.Goals as goal
-
-pub loop-states-init : goal.loop-states-init
-loop-states-init c = growing_none _ _ _ _ _ _ c.clear.new.words (λ i l. c.clear.ensures i (omega arith))
 
 pub loop-states-preserved : goal.loop-states-preserved
 loop-states-preserved c = growing_more _ _ _ _ _ _ c.args.lasso.inside _ _ c.loop-states.invariant c.round.ensures

@@ -1,4 +1,4 @@
-use Rattle.std.proofs.Common.{◌≡◌, ℕ, suc, ◌-◌, Bool, ◌↔◌, List, get_or, refl, ap, arith}
+use Rattle.std.proofs.Common.{◌≡◌, ℕ, suc, ◌-◌, Bool, ◌↔◌, List, get_or, ap, arith}
 use Rattle.program.specs.Masks.{Bit}
 use Rattle.program.specs.declared.automaton.Automaton.{Automaton}
 use Rattle.lasso.specs.Rounds.{Enters, Rounded}
@@ -14,14 +14,6 @@ rounded_at : {a : Automaton} {steps : List Step} {stem : ℕ} {truths : List ℕ
     → Rounded a steps stem truths f g old i new → Rounded a steps stem truths f g old j new
 rounded_at i j e r = rw (← e) r
 
-pub loop-i-init : goal.loop-i-init
-loop-i-init c = record {
-  kept = λ k h. refl;
-  small = λ k h l. absurd (omega arith);
-  inner = λ k q h l. absurd (omega arith);
-  last = λ k q h l. absurd (omega arith);
-}
-
 pub loop-i-preserved : goal.loop-i-preserved
 loop-i-preserved c =
     let i : ℕ = c.loop-i.i - 1 in
@@ -29,6 +21,3 @@ loop-i-preserved c =
     rounded_more _ _ _ _ _ _ c.args.lasso.inside c.args.states.now c.loop-i.states i c.entered.result (omega arith) (omega arith)
     (rounded_at c.loop-i.i (suc i) turn c.loop-i.invariant) c.entered.type_inv
     (λ q. enters_same c.args.automaton.now _ c.entered.result q _ _ _ _ _ _ c.has-f.ensures c.has-g.ensures (ap (λ (k : ℕ). get_or c.loop-i.states k 0) c.after.ensures.is) (c.entered.ensures q))
-
-pub returns : goal.returns
-returns c = rounded_at c.loop-i.i 0 (omega arith) c.loop-i.invariant

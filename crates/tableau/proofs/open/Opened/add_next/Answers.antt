@@ -1,21 +1,11 @@
-use Rattle.std.proofs.Common.{ℕ, sym, subst, rules}
+use Rattle.std.proofs.Common.{rules}
 use Rattle.tableau.specs.Calculus.{calculus}
 use Rattle.tableau.specs.Graphs.{Sign, Sign.T, Sign.F}
-use Rattle.tableau.specs.Handing.{Operand, Hands}
+use Rattle.tableau.specs.Handing.{Operand}
 use Rattle.tableau.specs.Walk.{on}
-use Rattle.tableau.proofs.Handed.{clashed_weaken, hands_after}
+use Rattle.tableau.proofs.Handed.{hands_after}
 use Rattle.tableau.proofs.Parts.{by_sign}
 use Rattle.tableau.proofs.open.Opened.add_next.Goals as goal
-
-pub returns-in_err-all : goal.returns-in_err-all
-returns-in_err-all c = record {
-  stands = search rules;
-  hands = λ d shows there is fine.
-      let part = Operand d c.args.self.node.now c.args.self.opening.rules.phase c.args.e c.args.f in
-      let S : ℕ → Type 0 = λ y. (s : Sign) × part s y in
-      subst (Hands (calculus d c.args.self.opening.rules.phase) S (on c.args.trail.now) (on c.add_operand.new.trail)) (sym c.from_residual.ensures)
-      (clashed_weaken S (λ y h. (T, h)) (c.in_err-all.ensures.hands d shows there is fine));
-}
 
 pub returns : goal.returns
 returns c = record {

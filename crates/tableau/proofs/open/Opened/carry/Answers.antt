@@ -3,13 +3,10 @@ use Rattle.tableau.specs.Calculus.{calculus}
 use Rattle.tableau.specs.Handing.{By, Hands}
 use Rattle.tableau.specs.Successions.{Handed}
 use Rattle.tableau.specs.Walk.{on}
-use Rattle.tableau.proofs.Handed.{added_none, added_like, added_more, added_all, clashed_weaken, clashed_more}
+use Rattle.tableau.proofs.Handed.{added_like, added_more, added_all, clashed_weaken, clashed_more}
 use Rattle.tableau.proofs.Numbering.{count_read}
 use Rattle.tableau.proofs.Parts.{handed_by, by_there}
 use Rattle.tableau.proofs.open.Opened.carry.Goals as goal
-
-pub loop-e-init : goal.loop-e-init
-loop-e-init c = (c.requires, λ d shows lt fine. added_none (calculus d c.args.self.opening.rules.phase) (By d c.args.self.node.now c.args.self.opening.rules.phase) (on c.args.trail.now) fine)
 
 pub loop-e-preserved : goal.loop-e-preserved
 loop-e-preserved c = (

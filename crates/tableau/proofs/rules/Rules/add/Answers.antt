@@ -1,4 +1,4 @@
-use Rattle.std.proofs.Common.{◌+◌, get_or, sym, refl, ap, ◌∙◌, subst, arith, take_all}
+use Rattle.std.proofs.Common.{◌+◌, get_or, sym, ap, ◌∙◌, subst, arith, take_all}
 use Rattle.std.proofs.lemmas.Bool.{both_ways}
 use Rattle.tableau.specs.Calculus.{calculus, Fine}
 use Rattle.tableau.specs.Claims.{has}
@@ -7,9 +7,6 @@ use Rattle.tableau.proofs.Clashes.{stuck_clash, fine_push}
 use Rattle.tableau.proofs.Steps.{Held, place, pushed, held_old, held_new}
 use Rattle.tableau.proofs.rules.Rules.add.Goals as goal
 use Rattle.tableau.proofs.rules.Rules.add.Goals.{then-not-contains+else-clashes, else-not-contains}
-
-pub loop-x-init : goal.loop-x-init
-loop-x-init c = (record { stands = c.requires; grew = refl; kept = refl; more = omega arith }, λ d shows fine. fine)
 
 pub returns-then-clashes : goal.returns-then-clashes
 returns-then-clashes c =

@@ -31,10 +31,3 @@ loop-e-preserved c = λ d s a l.
       | in_default w ↦
           allow_same d N e a c.loop-e.allowed c.match-form.allowed w.allowed-is now (λ b f k q. w.in_default.not-Next b f (t.1 ∙ q))
     ]
-
-pub returns : goal.returns
-returns c = λ d s a l.
-    let end = count_read c.count-e-end.ensures.is c.forms.ensures.is in
-    let n = s.count in
-    let now = c.loop-e.invariant d s a l in
-    (λ bit e b f k is. now.0 bit e (let low = k.0.0 in omega arith) b f k is, λ all. now.1 (λ h low b f k is. all h b f k is))

@@ -1,4 +1,4 @@
-use Rattle.std.proofs.Common.{◌≡◌, cond, sym, ◌∙◌, arith}
+use Rattle.std.proofs.Common.{◌≡◌, cond, sym, ◌∙◌}
 use Rattle.std.proofs.lemmas.Bool.{both_ways}
 use Rattle.document.specs.Documents.{form_at}
 use Rattle.document.specs.declared.form.Form.TheVariants.{Prop}
@@ -9,10 +9,6 @@ use Rattle.tableau.proofs.told.Told.claimed_props.Goals as goal
 use Rattle.tableau.proofs.told.Told.claimed_props.Goals.{in-Prop+then-has_form, in-Prop+else-has_form, in_default}
 use Rattle.tableau.proofs.Numbering.{count_read, form_told, plain_prop}
 use Rattle.tableau.proofs.Telling.{tell_same, tell_one}
-use Rattle.program.proofs.Bits.{bit_none}
-
-pub loop-e-init : goal.loop-e-init
-loop-e-init c = λ d s p. (λ bit. absurd (bit_none p bit), λ t. absurd (let l = t.1 in omega arith))
 
 pub loop-e-preserved : goal.loop-e-preserved
 loop-e-preserved c = λ d s p.
@@ -34,10 +30,3 @@ loop-e-preserved c = λ d s p.
       | in_default w ↦
           tell_same d N sign e p c.loop-e.props c.match-form.props w.props-is now (λ k q. w.in_default.not-Prop p (t.1 ∙ q))
     ]
-
-pub returns : goal.returns
-returns c = λ d s p.
-    let end = count_read c.count-e-end.ensures.is c.forms.ensures.is in
-    let n = s.count in
-    let now = c.loop-e.invariant d s p in
-    (λ bit. let t = now.0 bit in (t.0, t.2, t.3), λ t. now.1 (t.0, let low = t.1.0.0 in omega arith, t.1, t.2))

@@ -1,19 +1,12 @@
-use Rattle.std.proofs.Common.{◌≡◌, true, false, cond, not, sym, refl, ◌∙◌}
+use Rattle.std.proofs.Common.{◌≡◌, false, cond, not, sym, refl, ◌∙◌}
 use Rattle.std.proofs.lemmas.Bool.{both_ways}
-use Rattle.document.specs.declared.form.Form.TheVariants.{True, Prop}
+use Rattle.document.specs.declared.form.Form.TheVariants.{True}
 use Rattle.tableau.specs.Claims.{member}
 use Rattle.tableau.specs.Graphs.{Sign.T, Sign.F, form}
 use Rattle.tableau.specs.Numbers.{number_of}
 use Rattle.tableau.proofs.told.Told.clashes_form.Goals as goal
 use Rattle.tableau.proofs.Numbering.{form_there}
-use Rattle.tableau.proofs.Clashing.{opposite_clash, truth_clash, prop_clash, other_clash}
-
-pub returns-then-has_form : goal.returns-then-has_form
-returns-then-has_form c = λ d s own.
-    let N = member c.args.self.set.words in
-    let e = c.args.e in
-    let has : N (number_of d (form (cond (not c.args.sign) T F) e)) ≡ true = sym (c.has_form.ensures d s own) ∙ c.if-has_form.true in
-    (λ _. opposite_clash d N e c.args.sign own has, λ _. refl)
+use Rattle.tableau.proofs.Clashing.{truth_clash, other_clash}
 
 pub returns-in-True : goal.returns-in-True
 returns-in-True c = λ d s own.
@@ -21,13 +14,6 @@ returns-in-True c = λ d s own.
     let e = c.args.e in
     let none : N (number_of d (form (cond (not c.args.sign) T F) e)) ≡ false = sym (c.has_form.ensures d s own) ∙ c.if-has_form.false in
     truth_clash d N e c.args.sign own (sym (form_there c.args.self.declared.now d s e True own.0 c.in-True.ensures.is)) none
-
-pub returns-in-Prop : goal.returns-in-Prop
-returns-in-Prop c = λ d s own.
-    let N = member c.args.self.set.words in
-    let e = c.args.e in
-    let none : N (number_of d (form (cond (not c.args.sign) T F) e)) ≡ false = sym (c.has_form.ensures d s own) ∙ c.if-has_form.false in
-    prop_clash d N e c.in-Prop.p c.args.sign c.claims_prop.result own (sym (form_there c.args.self.declared.now d s e (Prop c.in-Prop.p) own.0 c.in-Prop.ensures.is)) none (c.claims_prop.ensures d s)
 
 pub returns-in_default : goal.returns-in_default
 returns-in_default c = λ d s own.
