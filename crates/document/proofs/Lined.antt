@@ -27,7 +27,7 @@ use Rattle.document.proofs.Short.{two, three}
 use Rattle.document.proofs.Shown.{at_act, at_prop, at_prog, at_goal, wrong_line, wrong_count, wrong_name}
 
 -- a name that is not new, or is one too many
-below_fault : (d : Declarations) (bytes : List ℕ) (names : List (List ℕ)) (count : ℕ) (n : List ℕ) (most : ℕ) (f : LineFault) → NewBelow names count n most f
+pub below_fault : (d : Declarations) (bytes : List ℕ) (names : List (List ℕ)) (count : ℕ) (n : List ℕ) (most : ℕ) (f : LineFault) → NewBelow names count n most f
     → (KnownName names n → FaultyByFirst d bytes 4 0) → (Missing names n → most ≤ count → FaultyByFirst d bytes 5 0) → FaultyByFirst d bytes (line_fault_code f) (line_fault_column f)
 below_fault d bytes names count n most f h a b =
     ⊎_elim
@@ -118,7 +118,7 @@ module _ (held : Declared) (bytes : List ℕ) where
       prog_reads : ReadsAs bytes (prog_line first text)
       prog_reads = (three [] (fields bytes) count ∙ ap (λ v. v ∷ first ∷ text ∷ []) w, (named, tt))
 
-      prog_malformed : (d : Declarations) (f : ProgramFault) → MalformedBy text f → FaultyByFirst d bytes (program_fault_code f) (program_fault_column f)
+      pub prog_malformed : (d : Declarations) (f : ProgramFault) → MalformedBy text f → FaultyByFirst d bytes (program_fault_code f) (program_fault_column f)
       prog_malformed d (Malformed column) h = program (prog_line first text) prog_reads h
       prog_malformed d Undeclared h = absurd h
       prog_malformed d TooMany h = absurd h

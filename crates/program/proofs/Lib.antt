@@ -7,7 +7,6 @@ pub mod Factors
 pub mod Glushkov
 pub mod Goes
 pub mod Machine
-pub mod Maps
 pub mod Parts
 pub mod Places
 pub mod Prefixes

@@ -21,20 +21,20 @@ marks_if P Q true a b m e f g = rw e (λ n h. let o = marks_or P Q a b f g n h i
 marks_if P Q false a b m e f g = rw e (λ n h. (λ x. inl ((f n h).0 x), ⊎_elim (f n h).1 (λ y. absurd (both_ways false refl y.0))))
 
 module _ (p q : Program) (i : ℕ) (l r : Part) (f : PartOf p i l) (g : PartOf q (i + length (names p)) r) where
-  pub either_part : (b : Bool) → b ≡ cond l.nullable true r.nullable
-      → PartOf (either p q) i (record { nullable = b; first = bit_or l.first r.first; last = bit_or l.last r.last })
-  either_part b h =
+  pub either_part : (b : Bool) (to : ℕ) → b ≡ cond l.nullable true r.nullable
+      → PartOf (either p q) i (record { nullable = b; first = bit_or l.first r.first; last = bit_or l.last r.last; «end» = to })
+  either_part b to h =
       record {
         empty = h ∙ ap (λ v. cond v true r.nullable) f.empty ∙ ap (cond (nullable p) true) g.empty;
         begins = marks_or (First p i) (First q (i + length (names p))) l.first r.first f.begins g.begins;
         ends = marks_or (Last p i) (Last q (i + length (names p))) l.last r.last f.ends g.ends;
       }
 
-  pub seq_part : (b : Bool) (begin last : ℕ) → b ≡ cond l.nullable r.nullable false
+  pub seq_part : (b : Bool) (begin last to : ℕ) → b ≡ cond l.nullable r.nullable false
       → begin ≡ cond l.nullable (bit_or l.first r.first) l.first
       → last ≡ cond r.nullable (bit_or r.last l.last) r.last
-      → PartOf (seq p q) i (record { nullable = b; first = begin; last = last })
-  seq_part b begin last h u v =
+      → PartOf (seq p q) i (record { nullable = b; first = begin; last = last; «end» = to })
+  seq_part b begin last to h u v =
       record {
         empty = h ∙ ap (λ v. cond v r.nullable false) f.empty ∙ ap (λ v. cond (nullable p) v false) g.empty;
         begins = subst (λ t. Marks begin (λ n. First p i n ⊎ ((t ≡ true) × First q (i + length (names p)) n))) f.empty

@@ -60,7 +60,7 @@ pub not_at : (from mid : Reader) (c : ℕ) (b : Bool) → SameTexts from mid →
 not_at from mid c b same d h here = both_ways b h (d.1 (subst (λ v. At v.now mid.at c) (sym same.text) here))
 
 pub closed_at : (from mid new : Reader) (l : Part) (r : Result Part ProgramFault) → SameTexts from mid → ClosedOff mid new l r
-    → MatchResult r (λ p. (new.at ≡ mid.at + 1) × (new.draft ≡ mid.draft) × (p ≡ l)) (λ f. At from.text.now mid.at 41 → ⊥)
+    → MatchResult r (λ p. (new.at ≡ mid.at + 1) × (new.draft ≡ mid.draft) × (p ≡ record { nullable = l.nullable; first = l.first; last = l.last; «end» = new.at })) (λ f. At from.text.now mid.at 41 → ⊥)
 closed_at from mid new l (Ok p) same h = h
 closed_at from mid new l (Err f) same h = λ here. h (subst (λ v. At v.now mid.at 41) (sym same.text) here)
 
@@ -124,12 +124,12 @@ module _ (from : Reader) where
 
   pub sum_both : (mid next : Reader) (l r x : Part) → ReadsPart sequence from mid (Ok l) → At text mid.at 43
       → PartAt sum text (mid.at + 1) acts mid.draft next.at next.draft (Ok r)
-      → ((p q : Program) (i : ℕ) → PartOf p i l → PartOf q (i + length (names p)) r → PartOf (either p q) i x)
+      → x.«end» ≡ r.«end» → ((p q : Program) (i : ℕ) → PartOf p i l → PartOf q (i + length (names p)) r → PartOf (either p q) i x)
       → ReadsPart sum from next (Ok x)
-  sum_both mid next l r x left here right make bs rest t (d, single q) e ends =
+  sum_both mid next l r x left here right stop make bs rest t (d, single q) e ends =
       let u = left bs rest t (d, q) e (ends_sum rest ends) in
       absurd (not_plus rest _ ends (no_turn bs rest 43 mid.at e u.reaches here))
-  sum_both mid next l r x left here right make bs rest t (d, plus {ls = ls} {rs = rs} q s) e ends =
+  sum_both mid next l r x left here right stop make bs rest t (d, plus {ls = ls} {rs = rs} q s) e ends =
       let u = left ls (43 ∷ (rs ++ rest)) _ (d, q) (left_of ls rs rest 43 e) (inr refl) in
       let h = turn ls rs rest 43 mid.at e u.reaches in
       let w = right rs rest _ (d, s) h.after ends in
@@ -139,6 +139,7 @@ module _ (from : Reader) where
         program = either u.program w.program;
         means = (u.program, w.program, u.means, w.means, refl);
         reaches = both_long ls rs 43 mid.at next.at u.reaches w.reaches;
+        «end» = both_long ls rs 43 mid.at x.«end» u.reaches (stop ∙ w.«end»);
         masks = make u.program w.program (old.names + 1) u.masks (subst (λ i. PartOf w.program i r) (next_name u.program w.program old mid.draft next.draft f g) w.masks);
         entered = either_entered u.program w.program old mid.draft next.draft f g;
       }
@@ -170,12 +171,12 @@ module _ (from : Reader) where
 
   pub sequence_both : (mid next : Reader) (new'' : Draft) (l r x : Part) → ReadsPart factor from mid (Ok l) → At text mid.at 59
       → PartAt sequence text (mid.at + 1) acts mid.draft next.at next.draft (Ok r) → Joined l.last r.first next.draft new''
-      → ((p q : Program) (i : ℕ) → PartOf p i l → PartOf q (i + length (names p)) r → PartOf (seq p q) i x)
+      → x.«end» ≡ r.«end» → ((p q : Program) (i : ℕ) → PartOf p i l → PartOf q (i + length (names p)) r → PartOf (seq p q) i x)
       → PartAt sequence text at acts old next.at new'' (Ok x)
-  sequence_both mid next new'' l r x left here right joined make bs rest t (d, lone q) e ends =
+  sequence_both mid next new'' l r x left here right joined stop make bs rest t (d, lone q) e ends =
       let u = left bs rest t (d, q) e (ends_sequence rest ends) in
       absurd (not_semi rest _ ends (no_turn bs rest 59 mid.at e u.reaches here))
-  sequence_both mid next new'' l r x left here right joined make bs rest t (d, semi {ls = ls} {rs = rs} q s) e ends =
+  sequence_both mid next new'' l r x left here right joined stop make bs rest t (d, semi {ls = ls} {rs = rs} q s) e ends =
       let u = left ls (59 ∷ (rs ++ rest)) _ (d, q) (left_of ls rs rest 59 e) (inr (inr refl)) in
       let h = turn ls rs rest 59 mid.at e u.reaches in
       let w = right rs rest _ (d, s) h.after ends in
@@ -185,6 +186,7 @@ module _ (from : Reader) where
         program = seq u.program w.program;
         means = (u.program, w.program, u.means, w.means, refl);
         reaches = both_long ls rs 59 mid.at next.at u.reaches w.reaches;
+        «end» = both_long ls rs 59 mid.at x.«end» u.reaches (stop ∙ w.«end»);
         masks = make u.program w.program (old.names + 1) u.masks (subst (λ i. PartOf w.program i r) (next_name u.program w.program old mid.draft next.draft f g) w.masks);
         entered = seq_entered u.program w.program old mid.draft next.draft f g new'' l r u.masks w.masks joined;
       }
@@ -229,8 +231,8 @@ module _ (from : Reader) where
         subst (λ v. ReadAs acts v (at + length bs) mid.at old mid.draft l) (sym i) (subst (λ v. ReadAs acts u.tree (at + v) mid.at old mid.draft l) j b.read)
 
     pub factor_stars : (new' : Draft) (x : Part) → (r ≡ 0 → ⊥) → Joined l.last l.first mid.draft new'
-        → ((p : Program) (i : ℕ) → PartOf p i l → PartOf (star p) i x) → PartAt factor text at acts old (mid.at + r) new' (Ok x)
-    factor_stars new' x other joined make bs rest t (d, q) e ends =
+        → x.«end» ≡ mid.at + r → ((p : Program) (i : ℕ) → PartOf p i l → PartOf (star p) i x) → PartAt factor text at acts old (mid.at + r) new' (Ok x)
+    factor_stars new' x other joined stop make bs rest t (d, q) e ends =
         let b = based d bs rest t q e ends in
         let u = b.parts in
         let y = b.read in
@@ -243,6 +245,7 @@ module _ (from : Reader) where
           program = stars (suc k) p;
           means = means_stars acts (suc k) u.tree p y.means;
           reaches = omega (arith, b.far, b.long, y.reaches);
+          «end» = omega (arith, b.far, b.long, y.reaches, stop);
           masks = masks_stars k (old.names + 1) p x (make p (old.names + 1) y.masks);
           entered = entered_stars k p old new' (star_entered p old mid.draft new' l y.entered y.masks joined);
         })
@@ -268,7 +271,7 @@ module _ (from : Reader) where
   atom_err mid f here read bs rest t (d, inner {bs = cs} q) e un = read cs (41 ∷ rest) t (suc d, q) (opened cs rest e) refl
 
   pub atom_closed : (mid next : Reader) (l : Part) (r : Result Part ProgramFault) → At text at 40 → PartAt sum text (at + 1) acts old mid.at mid.draft (Ok l)
-      → MatchResult r (λ p. (next.at ≡ mid.at + 1) × (next.draft ≡ mid.draft) × (p ≡ l)) (λ f. At text mid.at 41 → ⊥)
+      → MatchResult r (λ p. (next.at ≡ mid.at + 1) × (next.draft ≡ mid.draft) × (p ≡ record { nullable = l.nullable; first = l.first; last = l.last; «end» = next.at })) (λ f. At text mid.at 41 → ⊥)
       → ReadsAtom from next r
   atom_closed mid next l r here read how bs rest t (d, word h) e un = absurd (not_letter bs rest h e here)
   atom_closed mid next l r here read how bs rest t (d, inner {bs = cs} q) e un =
@@ -277,14 +280,15 @@ module _ (from : Reader) where
       shut r x y how
     where
       shut : (r : Result Part ProgramFault) → ReadAs acts t (at + 1 + length cs) mid.at old mid.draft l → Head text mid.at 41 rest
-          → MatchResult r (λ p. (next.at ≡ mid.at + 1) × (next.draft ≡ mid.draft) × (p ≡ l)) (λ f. At text mid.at 41 → ⊥)
+          → MatchResult r (λ p. (next.at ≡ mid.at + 1) × (next.draft ≡ mid.draft) × (p ≡ record { nullable = l.nullable; first = l.first; last = l.last; «end» = next.at })) (λ f. At text mid.at 41 → ⊥)
           → Answer next.at next.draft r (40 ∷ (cs ++ 41 ∷ [])) t
       shut (Ok p) x y h =
           rw (h.1, h.2) (record {
             program = x.program;
             means = x.means;
             reaches = omega (arith, h.0, x.reaches, length-append cs (41 ∷ []));
-            masks = x.masks;
+            «end» = omega (arith, h.0, x.reaches, length-append cs (41 ∷ []));
+            masks = record { empty = x.masks.empty; begins = x.masks.begins; ends = x.masks.ends };
             entered = x.entered;
           })
       shut (Err f) x y h = absurd (h (y.within, y.is))

@@ -51,11 +51,12 @@ Ends sequence (c ∷ bs) = (c ≡ 41) ⊎ (c ≡ 43)
 Ends sum [] = Unit {0}
 Ends sum (c ∷ bs) = c ≡ 41
 
--- the program that the tree means was read, and the reader came to a place
+-- the program that the tree means was read, and the part and the reader came to a place
 pub record ReadAs (acts : List Name) (t : Tree) (to at : ℕ) (old new : Draft) (part : Part) : Type 0 where
   pub program : Program
   pub means : Means acts t program
   pub reaches : at ≡ to
+  pub «end» : part.«end» ≡ to
   pub masks : PartOf program (old.names + 1) part
   pub entered : Entered program old new
 
@@ -116,5 +117,5 @@ pub record SameTexts (old new : Reader) : Type 0 where
 abbrev pub ClosedOff : Reader → Reader → Part → Result Part ProgramFault → Type 0
 ClosedOff old new inside r =
     MatchResult r
-    (λ part. (new.at ≡ old.at + 1) × (new.draft ≡ old.draft) × (part ≡ inside))
+    (λ part. (new.at ≡ old.at + 1) × (new.draft ≡ old.draft) × (part ≡ record { nullable = inside.nullable; first = inside.first; last = inside.last; «end» = new.at }))
     (λ f. Sees old 41 → ⊥)

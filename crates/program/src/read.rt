@@ -82,6 +82,7 @@ impl<'t, 'n> Reader<'t, 'n> {
             nullable: false,
             first: bit,
             last: bit,
+            end: self.at,
         })
     }
 
@@ -94,7 +95,10 @@ impl<'t, 'n> Reader<'t, 'n> {
             return Err(self.malformed());
         }
         self.at += 1;
-        Ok(inside)
+        Ok(Part {
+            end: self.at,
+            ..inside
+        })
     }
 
     // A name or a sum in parentheses.
@@ -127,7 +131,7 @@ impl<'t, 'n> Reader<'t, 'n> {
         }
         self.at += stars;
         self.draft.connect(base.last, base.first);
-        Ok(base.starred())
+        Ok(base.starred(self.at))
     }
 
     // Factors one after another.

@@ -39,13 +39,14 @@ impl Row {
     }
 }
 
-// A part of a program that was read.
+// A part of a program that was read, and the place where it ends.
 #[derive(Clone, Copy, PartialEq, Eq, Debug)]
 pub struct Part {
     // Whether the empty word is one of the part's words.
     pub nullable: bool,
     pub first: u16,
     pub last: u16,
+    pub end: usize,
 }
 
 // The names of a mask, and those of another where `also` says so.
@@ -58,34 +59,40 @@ fn joined_if(mask: u16, more: u16, also: bool) -> u16
 impl Part {
     // One part or the other.
     pub fn either(self, right: Part) -> Part
-        ensures { (p q : Program) (i : ℕ) → PartOf p i self → PartOf q (i + length (names_of p)) right → PartOf (either-of p q) i result }
+        ensures end { result.end ≡ right.end }
+        ensures is { (p q : Program) (i : ℕ) → PartOf p i self → PartOf q (i + length (names_of p)) right → PartOf (either-of p q) i result }
     {
         Part {
             nullable: self.nullable || right.nullable,
             first: self.first | right.first,
             last: self.last | right.last,
+            end: right.end,
         }
     }
 
     // One part and then the other.
     pub fn then(self, right: Part) -> Part
-        ensures { (p q : Program) (i : ℕ) → PartOf p i self → PartOf q (i + length (names_of p)) right → PartOf (seq p q) i result }
+        ensures end { result.end ≡ right.end }
+        ensures is { (p q : Program) (i : ℕ) → PartOf p i self → PartOf q (i + length (names_of p)) right → PartOf (seq p q) i result }
     {
         Part {
             nullable: self.nullable && right.nullable,
             first: joined_if(self.first, right.first, self.nullable),
             last: joined_if(right.last, self.last, right.nullable),
+            end: right.end,
         }
     }
 
-    // Zero or more times.
-    pub fn starred(self) -> Part
-        ensures { (p : Program) (i : ℕ) → PartOf p i self → PartOf (star p) i result }
+    // Zero or more times, with its stars read up to `end`.
+    pub fn starred(self, end: usize) -> Part
+        ensures end { result.end ≡ end }
+        ensures is { (p : Program) (i : ℕ) → PartOf p i self → PartOf (star p) i result }
     {
         Part {
             nullable: true,
             first: self.first,
             last: self.last,
+            end,
         }
     }
 }

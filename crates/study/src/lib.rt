@@ -3,6 +3,7 @@
 
 pub mod audit;
 pub mod goal;
+pub mod lone;
 pub mod pairs;
 pub mod reader;
 pub mod refusal;

@@ -55,6 +55,9 @@ begins t (x ∷ xs) = go (has t x) (begins t xs) (begins (t ++ x ∷ []) xs)
     go true old new = old
     go false old new = (x ∷ new.0, new.1 ∙ append_assoc t (x ∷ []) new.0)
 
+pub take_grown : (t xs : List ℕ) (n : ℕ) → length t ≡ n → take n (grown t xs) ≡ t
+take_grown t xs n e = let b = begins t xs in ap (take n) b.1 ∙ take_at t b.0 n e
+
 pub get_d_grown : (t xs : List ℕ) (i : ℕ) → i < length t → get_or (grown t xs) i 0 ≡ get_or t i 0
 get_d_grown t xs i h = let b = begins t xs in ap (λ l. get_or l i 0) b.1 ∙ get_or_append_left t b.0 0 i h
 

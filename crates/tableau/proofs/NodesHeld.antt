@@ -1,5 +1,5 @@
 -- Nodes made of the sets that a unit reaches are the nodes that the definitions have, and all of these are made.
-use Rattle.std.proofs.Common.{◌≡◌, ℕ, ◌<◌, Bool, true, false, eqb, ◌⊎◌, ◌↔◌, List, [], ◌∷◌, ◌++◌, sym, refl, ap, ◌∙◌, subst, inl, inr, arith}
+use Rattle.std.proofs.Common.{◌≡◌, ℕ, ◌-◌, ◌<◌, Bool, true, false, cond, eqb, ◌⊎◌, ◌↔◌, List, [], ◌∷◌, ◌++◌, sym, refl, ap, ◌∙◌, subst, inl, inr, arith}
 use mathlib.Core.Path.{fun_ext}
 use Rattle.std.proofs.lemmas.Bool.{both_ways, eqb-true, eq-eqb, or_cases, or_left, or_right}
 use Rattle.document.specs.Documents.{Document, WellFormed, Refers}
@@ -83,6 +83,10 @@ first_complete d good m first =
           (made.phase ∙ sym first.even)
           (made.closing ∙ sym first.closes),
     )
+
+-- the phase of a node in memory is turned where it is closing
+pub turned_held : (d : Document) (n : Held) → turned (node_of d n) ≡ cond n.closing (1 - n.phase) n.phase
+turned_held d n = refl
 
 -- the two lists have the numbers of what is carried to a successor
 carried_lists : (d : Document) (n : Held) (x : ℕ) (H L : List ℕ) (target : ℕ → ℕ → ℕ → ℕ) → x ≡ turned (node_of d n) → ListsHanded d n x H → ListsTargets d n 0 target L → ListsSet d (Carried d (node_of d n) target) (H ++ L)

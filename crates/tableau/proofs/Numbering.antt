@@ -185,6 +185,11 @@ weight_held held d s e (Until f p g) l h =
 pub form_held : (held : Declared) (d : Document) → Shows held d → (e : ℕ) → e < length d.forms → weight_in held.rows (form_in held.lines e) ≡ weight_of d.progs (form_at d e)
 form_held held d s e l = ap (weight_in held.rows) (s.lines e l) ∙ weight_held held d s e (form_at d e) l refl
 
+pub until_states : (held : Declared) (d : Document) → Shows held d → (e f p g : ℕ) → e < length d.forms → form_at d e ≡ Until f p g → states_in (row_at held.rows p) ≡ states d e
+until_states held d s e f p g l h =
+    let r = subst (λ x. Refers d e x) h (s.good.refers e l) in
+    states_held (program_at d p) (row_at held.rows p) (s.rows p r.1) ∙ ap (λ x. suc (length (names (program_of d x)))) (sym h)
+
 -- the sum that is taken for a number does not wrap
 pub number_fits : (held : Declared) (d : Document) → Shows held d → (k : Claim) → ClaimOf d k → (e b place : ℕ) → e ≡ speaks_of k → (e < 64 → b ≡ base_in held.lines e) → place ≡ place_in d k → (b % 256 + place) % 256 ≡ number_of d k
 unfolding number_of

@@ -60,6 +60,10 @@ offered_offers d x c k Nothing own is o = λ b y. (
 offered_offers d x c k (One f) own is o = λ b. given_number d x c k own is b (listed f) (o b)
 offered_offers d x c k (Two f h) own is o = (given_number d x c k own is true (listed f) o.0, given_number d x c k own is false (listed h) o.1)
 
+-- a number that is no claim's offers nothing
+pub nothing_offers : (d : Document) (x c : ℕ) → ((k : Claim) → ClaimOf d k → number_of d k ≡ c → ⊥) → Offers (calculus d x) c Nothing
+nothing_offers d x c none b y = (λ h. absurd (both_ways false refl h), λ g. absurd (none g.0 g.2 g.3))
+
 -- a claim clashes just as its number does
 pub clash_number : (d : Document) (x c : ℕ) (N : ℕ → Bool) (k : Claim) → ClaimOf d k → number_of d k ≡ c → ClashesWith d N k ↔ Clashing (calculus d x) N c
 clash_number d x c N k own is = (

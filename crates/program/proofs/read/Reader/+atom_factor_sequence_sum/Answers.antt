@@ -55,7 +55,7 @@ factor-returns-clause-reads t c =
     run_of (λ b. eqb b 42) xs r.result r.ensures.within (λ k h. search (rules, r.ensures.all k h)) (λ h. search (rules, r.ensures.stops h)) in
     factor_stars s m c.in_ok-base.base r.result c.in_ok-base.ensures.reads
     (stars_of (drop m.at s.text.now) xs r.result (c.rest.ensures ∙ ap (λ v. drop m.at v.now) c.in_ok-base.ensures.same.text) run)
-    c.connect.new.self c.starred.result c.if-stars-eq0.false c.connect.ensures c.starred.ensures
+    c.connect.new.self c.starred.result c.if-stars-eq0.false c.connect.ensures c.starred.ensures.«end» c.starred.ensures.is
 
 pub sequence-returns-in_err-left-clause-reads : goal.sequence-returns-in_err-left-clause-reads
 sequence-returns-in_err-left-clause-reads t c =
@@ -90,7 +90,7 @@ sequence-returns-clause-reads t c =
     let same = c.in_ok-left.ensures.same in
     sequence_both s m n c.connect.new.self c.in_ok-left.left c.in_ok-right.right c.then.result
     c.in_ok-left.ensures.reads (seen_at s m 59 same (c.sees.ensures.0 c.if-not-sees.false))
-    (behind s m n (Ok c.in_ok-right.right) same c.in_ok-right.ensures.reads) c.connect.ensures c.then.ensures
+    (behind s m n (Ok c.in_ok-right.right) same c.in_ok-right.ensures.reads) c.connect.ensures c.then.ensures.«end» c.then.ensures.is
 
 pub sum-returns-in_err-left-clause-reads : goal.sum-returns-in_err-left-clause-reads
 sum-returns-in_err-left-clause-reads t c =
@@ -125,4 +125,4 @@ sum-returns-clause-reads t c =
     let same = c.in_ok-left.ensures.same in
     sum_both s m n c.in_ok-left.left c.in_ok-right.right c.either.result
     c.in_ok-left.ensures.reads (seen_at s m 43 same (c.sees.ensures.0 c.if-not-sees.false))
-    (behind s m n (Ok c.in_ok-right.right) same c.in_ok-right.ensures.reads) c.either.ensures
+    (behind s m n (Ok c.in_ok-right.right) same c.in_ok-right.ensures.reads) c.either.ensures.«end» c.either.ensures.is

@@ -51,6 +51,7 @@ returns-clause-reads c bs rest t n e un =
       program = act number;
       means = (number, found, refl);
       reaches = ap (λ v. c.args.self.now.at + length v) w;
+      «end» = ap (λ v. c.args.self.now.at + length v) w;
       masks = record { empty = refl; begins = bits; ends = bits };
       entered = act_entered number (bit_and number 255) c.args.self.now.draft c.add-bit.new.self (and_mask number 8) a.entered;
     })

@@ -1,4 +1,4 @@
-use Rattle.std.proofs.Common.{◌≡◌, true, cond, sym, ◌∙◌}
+use Rattle.std.proofs.Common.{◌≡◌, true, cond, sym, refl, ◌∙◌}
 use Rattle.std.proofs.lemmas.Bool.{cond-true, cond-false}
 use Rattle.program.proofs.Parts.{either_part}
 use Rattle.program.proofs.row.Part.either.Goals as goal
@@ -12,4 +12,4 @@ returns c =
     elim c.if-self.branch
     [ then-self w ↦ w.result-is ∙ w.if-self.true ∙ sym (cond-true l true r w.if-self.true) | else-self w ↦ w.result-is ∙ sym (cond-false l true r w.if-self.false) ]
     in
-    λ p q i f g. either_part p q i c.args.self c.args.right f g _ e
+    record { «end» = refl; is = λ p q i f g. either_part p q i c.args.self c.args.right f g _ _ e }

@@ -1,4 +1,4 @@
-use Rattle.std.proofs.Common.{◌≡◌, false, cond, sym, ◌∙◌}
+use Rattle.std.proofs.Common.{◌≡◌, false, cond, sym, refl, ◌∙◌}
 use Rattle.std.proofs.lemmas.Bool.{cond-true, cond-false}
 use Rattle.program.proofs.Parts.{seq_part}
 use Rattle.program.proofs.row.Part.then.Goals as goal
@@ -13,4 +13,4 @@ returns c =
       | then-self w ↦ w.result-is ∙ sym (cond-true l r false w.if-self.true)
       | else-self w ↦ w.result-is ∙ w.if-self.false ∙ sym (cond-false l r false w.if-self.false)
     ] in
-    λ p q i f g. seq_part p q i c.args.self c.args.right f g _ _ _ e c.joined_if.ensures c.joined_if-2.ensures
+    record { «end» = refl; is = λ p q i f g. seq_part p q i c.args.self c.args.right f g _ _ _ _ e c.joined_if.ensures c.joined_if-2.ensures }
