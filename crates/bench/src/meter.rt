@@ -1,5 +1,6 @@
 // Writes a line for each piece of work: what came out, or how long it took.
 ghost use Rattle.std.specs.Prelude.{◌≡◌, if◌then◌else◌, IfOk};
+ghost use Rattle.bench.specs.Rounds.{Ran};
 
 use std::alloc::Global;
 use std::time::Instant;
@@ -71,6 +72,7 @@ impl<'a> Meter<'a> {
         requires { W.IsAlwaysCallable work.old }
         ensures again { W.IsAlwaysCallable work.new }
         ensures done { IfOk result (λ t. W.step work.old t work.new) }
+        ensures same { self.new.timed ≡ self.old.timed }
     {
         let start = Instant::now(self.rt)?;
         let done = work();
@@ -83,6 +85,7 @@ impl<'a> Meter<'a> {
     // Does the work in each round, and answers what comes out of the last.
     pub fn piece<T: Drop, W: FnMut() -> T>(&mut self, mut work: W) -> io::Result<T>
         requires { W.IsAlwaysCallable work }
+        ensures { IfOk result (λ t. (last : W) × Ran (λ a t b. W.step a t b) work (if self.old.timed then 5 else 1) t last) }
     {
         let mut done = self.round(&mut work)?;
         for _ in 1..self.rounds() {

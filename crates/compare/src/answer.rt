@@ -1,5 +1,6 @@
 // What a case answers, and the line that says so.
 ghost use Rattle.std.specs.Prelude.{◌≡◌};
+ghost use Rattle.compare.specs.Declares.{counts_of};
 
 use crate::fault::Refused;
 use document::document::Document;
@@ -60,6 +61,8 @@ pub enum Answer {
 }
 
 impl From<&Document> for Counts {
+    ghost from_gives = { λ d c. c ≡ counts_of d.now };
+
     fn from(document: &Document) -> Counts {
         let declared = document.declared();
         Counts {

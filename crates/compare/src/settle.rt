@@ -1,5 +1,6 @@
 // How a goal was settled, where a search ran to its end.
-ghost use Rattle.std.specs.Prelude.{◌≡◌, IfOk};
+ghost use Rattle.std.specs.Prelude.{◌≡◌, None, IfOk};
+ghost use Rattle.compare.specs.declared.answer.How.TheVariants.{None as Nothing};
 
 use crate::answer::{How, Settled};
 use crate::fault::Fault;
@@ -31,7 +32,7 @@ pub fn settled<J: FnOnce(&[Step], usize, &mut [u64]) -> Result<bool, Refusal>>(
     judge: J,
 ) -> Result<Settled, Fault>
     requires { J.IsAlwaysCallable judge }
-    ensures { IfOk result (λ s. s.used ≡ used) }
+    ensures { IfOk result (λ s. (s.used ≡ used) × (s.how ≡ Nothing → found ≡ None)) }
 {
     let how = match found {
         None => How::None,

@@ -1,4 +1,7 @@
 // Cases on a system: audit and examine.
+ghost use Rattle.std.specs.Prelude.{◌≡◌, ◌-◌, ◌^◌, Decides, IfOk};
+ghost use Rattle.compare.specs.Tabled.{AuditSays, ExamineSays};
+
 use crate::answer::{Answer, Settled};
 use crate::cursor::Cursor;
 use crate::fault::Fault;
@@ -23,6 +26,8 @@ struct AuditQuestion<'a> {
 
 impl<'a> Question for AuditQuestion<'a> {
     type Answer = Result<bool, Refusal>;
+
+    ghost answers = { λ q g r. AuditSays q.study.now q.steps.now q.stem g r };
 
     fn put<S: System>(self, system: S) -> Result<bool, Refusal> {
         let AuditQuestion {
@@ -62,6 +67,8 @@ struct ExamineQuestion<'a> {
 
 impl<'a> Question for ExamineQuestion<'a> {
     type Answer = Result<Settled, Fault>;
+
+    ghost answers = { λ q g r. ExamineSays q.study.now g r };
 
     fn put<S: System>(self, system: S) -> Result<Settled, Fault> {
         let ExamineQuestion {

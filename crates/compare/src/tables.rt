@@ -1,4 +1,9 @@
 // What the records hold: steps, and systems of up to three tables.
+ghost use Rattle.std.specs.Prelude.{◌≡◌, IfOk};
+ghost use Rattle.system.specs.TransitionGraph.{TransitionGraph};
+ghost use Rattle.system.specs.Listed.{listed as graph_of};
+ghost use Rattle.compare.specs.Tabled.{table_graph, tables_graph, Limited, AllLimited};
+
 use crate::cursor::Cursor;
 use crate::stop::Stop;
 use lasso::step::Step;
@@ -46,7 +51,9 @@ fn read_row(cursor: &mut Cursor) -> Result<Row, Stop> {
 }
 
 impl Table {
-    fn read(heap: Global, cursor: &mut Cursor) -> Result<Table, Stop> {
+    fn read(heap: Global, cursor: &mut Cursor) -> Result<Table, Stop>
+        ensures { IfOk result Limited }
+    {
         let actions = cursor.number()?;
         let record_count = cursor.places()?;
         let row_count = cursor.places()?;
@@ -59,7 +66,9 @@ impl Table {
         })
     }
 
-    pub fn listed(&self) -> Listed<'_> {
+    pub fn listed(&self) -> Listed<'_>
+        ensures { graph_of result.rows.now result.records.now result.actions ≡ table_graph self.now }
+    {
         Listed::new(&self.rows, &self.records, self.actions)
     }
 }
@@ -75,15 +84,20 @@ pub enum Tables {
     RightFirst(Table, Table, Table),
 }
 
-// A question to a system of any kind.
+// A question to a system of any kind. A maker of a kind of question gives `answers`: what an answer says of the system's graph.
 pub trait Question {
     type Answer;
 
-    fn put<S: System>(self, system: S) -> Self::Answer;
+    ghost answers: { Self → TransitionGraph → Self.Answer → Type 0 };
+
+    fn put<S: System>(self, system: S) -> Self::Answer
+        ensures { answers self (S.meaning system) result };
 }
 
 impl Tables {
-    pub fn read(heap: Global, cursor: &mut Cursor) -> Result<Tables, Stop> {
+    pub fn read(heap: Global, cursor: &mut Cursor) -> Result<Tables, Stop>
+        ensures { IfOk result AllLimited }
+    {
         let stop = cursor.malformed();
         let shape = cursor.number::<u64>()?;
         let mut table = || Table::read(heap, cursor);
@@ -97,7 +111,9 @@ impl Tables {
     }
 
     // Puts the question to the system that the tables list.
-    pub fn put<Q: Question>(&self, question: Q) -> Q::Answer {
+    pub fn put<Q: Question>(&self, question: Q) -> Q::Answer
+        ensures { Q.answers question (tables_graph self.now) result }
+    {
         match self {
             Tables::One(a) => question.put(a.listed()),
             Tables::Two(a, b) => question.put(Joint::new(a.listed(), b.listed())),

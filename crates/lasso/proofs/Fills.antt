@@ -1,7 +1,7 @@
 -- Steps written line by line.
-use Rattle.std.proofs.Common.{◌≡◌, ℕ, ◌+◌, ◌<◌, ◌≤◌, ◌⊎◌, List, [], ◌∷◌, ◌++◌, map, length, get_or, drop, set, Result, Ok, Err, sym, refl, ap, ◌∙◌, subst, ⊎_elim, append_assoc, append-nil, arith}
+use Rattle.std.proofs.Common.{◌≡◌, ℕ, ◌+◌, ◌<◌, ◌≤◌, ◌⊎◌, List, [], ◌∷◌, ◌++◌, map, length, get_or, take, drop, set, Result, Ok, Err, sym, refl, ap, ◌∙◌, subst, ⊎_elim, append_assoc, append-nil, arith}
 use denote.Ref.{Bor}
-use Rattle.std.proofs.lemmas.List.{length-map, length_push, nil_from_length, drop_more, map_push, set_at}
+use Rattle.std.proofs.lemmas.List.{length-map, length_push, nil_from_length, drop_more, drop-append-le, take-append-drop, map_push, set_at}
 use Rattle.document.specs.Texts.{pieces}
 use Rattle.document.specs.declared.fault.LineFault.{LineFault}
 use Rattle.document.proofs.Pieces.{pieces_some}
@@ -82,3 +82,12 @@ module _ (acts props : List (List ℕ)) where
       ⊎_elim (λ l. (only_line (subst (λ (v : List ℕ). AllRead acts props (pieces 10 v) g.left) (nil_from_length rest l) g.rest_read)).1) (λ l. omega (arith, g.sum)) h in
       let e : g.read ++ g.left ≡ g.read = ap (λ (l : List StepLine). g.read ++ l) (nil_from_length g.left empty) ∙ append-nil g.read in
       (g.read, subst (AllRead acts props (pieces 10 text)) e (g.reads g.left g.rest_read), g.so_far ∙ ap (λ (k : ℕ). map step_of g.read ++ drop k before) (sym g.count))
+
+-- what is filled in a front of the places is filled in the places
+pub filled_front : (ss : List StepLine) (n : ℕ) (before after : List Step) → length ss ≤ length (take n before) → Filled ss (take n before) after → Filled ss before (after ++ drop n before)
+filled_front ss n before after h f =
+    let steps = map step_of ss in
+    let over : drop (length ss) before ≡ drop (length ss) (take n before) ++ drop n before =
+    ap (λ (l : List Step). drop (length ss) l) (sym (take-append-drop n before)) ∙ drop-append-le (length ss) (take n before) (drop n before) h in
+    ap (λ (l : List Step). l ++ drop n before) f ∙ append_assoc steps (drop (length ss) (take n before)) (drop n before)
+    ∙ ap (λ (l : List Step). steps ++ l) (sym over)

@@ -218,7 +218,7 @@ pub fn scan(document: &Document, text: &[u8], steps: &mut [Step]) -> Result<Scan
     if seen.steps > steps.len() {
         return Err(ScanFault::Places);
     }
-    fill(&declared, text, steps);
+    fill(&declared, text, &mut steps[..seen.steps]);
     Ok(Scanned {
         steps: seen.steps,
         stem,

@@ -1,5 +1,5 @@
 // The nodes and edges of a goal's graph, as they lie in the two tables.
-ghost use Rattle.std.specs.Prelude.{◌≡◌, ℕ, ◌+◌, ◌<◌, ◌≤◌, length, Decides, MatchOption};
+ghost use Rattle.std.specs.Prelude.{◌≡◌, ℕ, ◌+◌, ◌*◌, ◌<◌, ◌≤◌, if◌then◌else◌, length, Decides, MatchOption};
 ghost use Rattle.tableau.specs.Nodes.{SameNode, node_at, edge_at};
 
 use crate::claims::ClaimSet;
@@ -29,14 +29,21 @@ impl Node {
         Node::default()
     }
 
+    // Phase and closing in one number, so that `same` tells both by one jump. With two so near to the jump before them, the
+    // processor guessed wrong at each node of the same action, and growing took twice the time.
+    fn standing(&self) -> u16
+        ensures { result ≡ 2 * self.now.phase + (if self.now.closing then 1 else 0) }
+    {
+        2 * u16::from(self.phase) + u16::from(self.closing)
+    }
+
     // Whether the two are the same node of the graph.
     // Kept: a derived `==` would compare the edges' places too, which are no part of what a node is.
     pub fn same(&self, other: &Node) -> bool
         ensures { Decides result (SameNode self.now other.now) }
     {
         self.action == other.action
-            && self.phase == other.phase
-            && self.closing == other.closing
+            && self.standing() == other.standing()
             && self.claims.same(&other.claims)
     }
 }

@@ -1,15 +1,16 @@
-use Rattle.std.proofs.Common.{◌≡◌, ◌≤◌, List, length, sym, refl, ◌∙◌, subst, inl, inr, ⊎_elim, arith}
+use Rattle.std.proofs.Common.{◌≡◌, length, length-take, sym, refl, ◌∙◌, subst, inl, inr, ⊎_elim, arith}
 use Rattle.std.proofs.lemmas.Option.{same_Some, none-some}
 use Rattle.document.specs.Faults.{line_fault_code}
 use Rattle.lasso.specs.DeclaredNames.{acts_of, props_of}
 use Rattle.document.specs.Texts.{pieces}
 use Rattle.document.specs.declared.declared.Declared.{Declared}
-use Rattle.lasso.specs.LassoLines.{AllRead, FirstFault}
+use Rattle.lasso.specs.LassoLines.{FirstFault}
 use Rattle.lasso.specs.Scans.{at_fault, refused, Scans, scan_code, scan_line}
-use Rattle.lasso.specs.Tallies.{Surveyed, FilledFrom}
+use Rattle.lasso.specs.Tallies.{Surveyed}
 use Rattle.lasso.specs.declared.scan.ScanFault.{ScanFault}
 use Rattle.lasso.specs.declared.scan.ScanFault.TheVariants.{Line}
-use Rattle.lasso.specs.declared.scan.StepLine.{StepLine}
+use Rattle.lasso.specs.declared.step.Step.{Step}
+use Rattle.lasso.proofs.Fills.{filled_front}
 use Rattle.lasso.proofs.Options.{nothing}
 use Rattle.lasso.proofs.StepLines.{exit_at}
 use Rattle.lasso.proofs.TextLaws.{scan_not, scan_room, scan_taken, tallied_too}
@@ -61,10 +62,9 @@ returns-clause-outcome c =
     let t = c.in_ok-seen.seen in
     let before = c.args.steps.now in
     let v = subst (λ (d : Declared). Surveyed (acts_of d) (props_of d) c.args.text.now t) c.declared-declared.ensures c.in_ok-seen.ensures in
-    let fills = subst (λ (d : Declared). (ss : List StepLine) → AllRead (acts_of d) (props_of d) (pieces 10 c.args.text.now) ss → length ss ≤ length before
-    → FilledFrom (acts_of d) (props_of d) c.args.text.now before c.fill.new.steps)
-    c.declared-declared.ensures c.fill.ensures v.0 v.1 (omega (arith, v.2.steps)) in
+    let fills = (rw c.declared-declared.ensures at c.fill.ensures) v.0 v.1 (omega (arith, v.2.steps, length-take {A = Step})) in
     let w : Surveyed (acts_of d) (props_of d) c.args.text.now t =
     (fills.0, fills.1, tallied_too (acts_of d) (props_of d) c.args.text.now t v fills.0 fills.1) in
     scan_taken (acts_of d) (props_of d) c.args.text.now (length before) t w c.in_ok-stem.stem c.in_ok-stem.ensures.ok_part c.if-stem-seen.false
-    c.if-seen-gt-MOST_STEPS.false before c.fill.new.steps refl c.if-seen-steps.false fills.2
+    c.if-seen-gt-MOST_STEPS.false before _ refl c.if-seen-steps.false
+    (filled_front fills.0 _ before c.fill.new.steps (omega (arith, w.2.steps, length-take {A = Step})) fills.2)
