@@ -29,8 +29,8 @@ impl Node {
         Node::default()
     }
 
-    // Phase and closing in one number, so that `same` tells both by one jump. With two so near to the jump before them, the
-    // processor guessed wrong at each node of the same action, and growing took twice the time.
+    // Phase and closing in one number, so that `same` tells both by one jump. With a jump each, near to the one for the
+    // action, finding a node among many of the same action took twice the time.
     fn standing(&self) -> u16
         ensures { result ≡ 2 * self.now.phase + (if self.now.closing then 1 else 0) }
     {
